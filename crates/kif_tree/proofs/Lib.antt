@@ -1,0 +1,6 @@
+pub mod ClauseLaws
+pub mod HeadLaws
+pub mod PrintLaws
+pub mod SubstLaws
+pub mod TermLaws
+pub mod VariableLaws

@@ -1,0 +1,7 @@
+pub mod Clauses
+pub mod FormLaws
+pub mod Laws
+pub mod Printed
+pub mod SameLaws
+pub mod Subst
+pub mod Terms

@@ -1,0 +1,24 @@
+//! Forms of SUO-KIF, clauses and substitutions as plain data, with the functions on them that every crate above needs.
+#![tactic(auto)]
+
+mod clause;
+mod equal;
+mod form;
+mod heads;
+mod laws;
+mod place;
+mod print;
+mod subst;
+mod terms;
+mod text;
+
+pub use clause::{Clause, InputClause, Literal};
+pub use equal::{forms_equal, literals_equal};
+pub use form::{Form, Forms, copy_all};
+pub use heads::{is_answer, is_headed};
+pub use laws::{agreement_law, composition_law, equality_law, ground_law};
+pub use place::{LoadName, Located, Place};
+pub use print::{append_clause, append_form, append_place, print_clause, print_form};
+pub use subst::{Pair, Subst, Unnamed, fill, followed_by, ground_instance, substitute};
+pub use terms::{append_variables, depth, has_no_row, is_ground, occurs, symbols, variables_of};
+pub use text::Text;
