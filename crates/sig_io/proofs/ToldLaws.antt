@@ -1,0 +1,35 @@
+-- Bytes that are told grow at their end, and what several writes appended together.
+use Rattle.std.proofs.Common.{◌≡◌, ℕ, ◌+◌, ◌-◌, ◌≤◌, length, subst, arith, List, ◌++◌, take, drop, refl, ap, sym, ◌∙◌}
+use Rattle.std.specs.Prelude.{Option, Some, None, Result, Ok, Err}
+use Rattle.std.specs.Io.KnownBytes.{append_known}
+use Rattle.std.proofs.lemmas.List.{append_assoc, length-append, length-drop}
+use Rattle.std.proofs.Math.Seq.{take-add, take-append-add}
+use Rattle.sigma_base.proofs.SliceLaws.{to_the_end}
+use Rattle.sig_io.specs.Told.{WritesAll}
+
+pub append_twice : (o : Option (List ℕ)) (xs ys : List ℕ) → append_known (append_known o xs) ys ≡ append_known o (xs ++ ys)
+append_twice None xs ys = refl
+append_twice (Some zs) xs ys = ap (λ (l : List ℕ). Some l) (append_assoc zs xs ys)
+
+-- a second piece after a whole first one
+pub written_both : {T E : Type 0} (r : Result T E) (old mid new : Option (List ℕ)) (first second : List ℕ)
+    → mid ≡ append_known old first → WritesAll mid new second r → WritesAll old new (first ++ second) r
+written_both (Ok x) old mid new first second e h = h ∙ ap (λ (o : Option (List ℕ)). append_known o second) e ∙ append_twice old first second
+written_both (Err x) old mid new first second e (n, le, h) = (
+  length first + n,
+  subst (λ k. length first + n ≤ k) (sym (length-append first second)) (omega (arith, le)),
+  h ∙ ap (λ (o : Option (List ℕ)). append_known o (take n second)) e ∙ append_twice old first (take n second) ∙ ap (append_known old) (sym (take-append-add first second n)),
+)
+
+-- n bytes of what is left of the piece, after w of it
+pub grown : (now before old : Option (List ℕ)) (p : List ℕ) (w n : ℕ) → w ≤ length p → n ≤ length (take (length p - w) (drop w p))
+    → before ≡ append_known old (take w p) → now ≡ append_known before (take n (take (length p - w) (drop w p)))
+    → (w + n ≤ length p) × (now ≡ append_known old (take (w + n) p))
+grown now before old p w n h k e f =
+    let whole = to_the_end p w in
+    let k' : n ≤ length (drop w p) = subst (λ (l : List ℕ). n ≤ length l) whole k in
+    let len : length (drop w p) ≡ length p - w = length-drop w p in (
+      omega arith,
+      f ∙ ap (λ (l : List ℕ). append_known before (take n l)) whole ∙ ap (λ (o : Option (List ℕ)). append_known o (take n (drop w p))) e
+          ∙ append_twice old (take w p) (take n (drop w p)) ∙ ap (append_known old) (sym (take-add w n p)),
+    )

@@ -1,0 +1,18 @@
+//! The outside as traits whose calls may fail, each with a count of its faults, and forms of them in memory. Code that is
+//! generic over a trait can't raise the count, so it answers a fault only where the outside gave one.
+#![tactic(auto)]
+
+mod faults;
+mod files;
+mod mem_files;
+mod mem_sink;
+mod plan;
+mod sink;
+mod words;
+
+pub use faults::{Failed, FetchError, WriteError, after_fault};
+pub use files::{Fetched, Files};
+pub use mem_files::{MemFiles, NamedFile};
+pub use mem_sink::MemSink;
+pub use sink::{Sink, write_all};
+pub use words::Words;
