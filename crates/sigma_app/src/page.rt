@@ -1,0 +1,152 @@
+//! The page of an answer.
+ghost use Rattle.std.specs.Prelude.{◌≡◌, ◌++◌, OnOk};
+ghost use Rattle.std.specs.List.{flat_map};
+ghost use Rattle.sigma_app.specs.Page as spec;
+
+use kif_tree::{Clause, LoadName, Pair, Place, Text, append_clause, append_form, append_place};
+use sigma_base::{Listed, NoMemory};
+
+/// How a line of a proof comes about.
+#[derive(Clone, Copy, Debug, PartialEq, Eq)]
+pub enum Rule {
+    Axiom,
+    Reflexivity,
+    Query,
+    Resolve,
+    Factor,
+    Paramodulate,
+}
+
+/// A line of a proof. Parents are numbers of lines from 0. An axiom has the place of its form.
+#[derive(Debug, Drop)]
+pub struct ProofLine {
+    pub clause: Clause,
+    pub rule: Rule,
+    pub parents: Listed<u32>,
+    pub place: Option<Place>,
+}
+
+fn rule_word(rule: Rule) -> &'static [u8]
+    ensures { result.now ≡ spec.rule_word rule }
+{
+    match rule {
+        Rule::Axiom => b"",
+        Rule::Reflexivity => b"equality",
+        Rule::Query => b"query",
+        Rule::Resolve => b"resolve",
+        Rule::Factor => b"factor",
+        Rule::Paramodulate => b"paramodulate",
+    }
+}
+
+fn append_parents(out: &mut Text, parents: &[u32]) -> Result<(), NoMemory>
+    ensures { OnOk result (out.new ≡ out.old ++ flat_map spec.parent_text parents.now) }
+{
+    for parent in parents {
+        out.push(b' ')?;
+        out.append_decimal(u64::from(*parent) + 1)?;
+    }
+    Ok(())
+}
+
+fn append_source(out: &mut Text, names: &[LoadName], line: &ProofLine) -> Result<(), NoMemory>
+    ensures { OnOk result (out.new ≡ out.old ++ spec.source_text names.now line.now) }
+{
+    if let Some(place) = &line.place {
+        return append_place(out, names, place);
+    }
+    out.append(rule_word(line.rule))?;
+    append_parents(out, line.parents.items())
+}
+
+fn append_line(
+    out: &mut Text,
+    names: &[LoadName],
+    number: u64,
+    line: &ProofLine,
+) -> Result<(), NoMemory>
+    ensures { OnOk result (out.new ≡ out.old ++ spec.line_text names.now number line.now) }
+{
+    out.append(b"  ")?;
+    out.append_decimal(number)?;
+    out.append(b". ")?;
+    append_clause(out, &line.clause)?;
+    out.append(b" [")?;
+    append_source(out, names, line)?;
+    out.append(b"]\n")
+}
+
+/// The lines of a proof, numbered from 1.
+pub fn append_lines(
+    out: &mut Text,
+    names: &[LoadName],
+    mut lines: &[ProofLine],
+) -> Result<(), NoMemory>
+    ensures { OnOk result (out.new ≡ out.old ++ spec.lines_text names.now 0 lines.entry.now) }
+{
+    let mut number: u64 = 0;
+    while let [line, rest @ ..] = lines {
+        number += 1;
+        append_line(out, names, number, line)?;
+        lines = rest;
+    }
+    Ok(())
+}
+
+fn append_pair(out: &mut Text, pair: &Pair) -> Result<(), NoMemory>
+    ensures { OnOk result (out.new ≡ out.old ++ spec.pair_text pair.now) }
+{
+    out.append(b"  ?")?;
+    out.append(pair.variable.bytes())?;
+    out.append(b" = ")?;
+    append_form(out, &pair.term)?;
+    out.push(b'\n')
+}
+
+fn append_pairs(out: &mut Text, values: &[Pair]) -> Result<(), NoMemory>
+    ensures { OnOk result (out.new ≡ out.old ++ flat_map spec.pair_text values.now) }
+{
+    for pair in values {
+        append_pair(out, pair)?;
+    }
+    Ok(())
+}
+
+/// What the asked variables become, a line each, or `yes` where none is asked.
+pub fn append_binding(out: &mut Text, values: &[Pair]) -> Result<(), NoMemory>
+    ensures { OnOk result (out.new ≡ out.old ++ spec.binding_text values.now) }
+{
+    match values {
+        [] => out.append(b"  yes\n"),
+        _ => append_pairs(out, values),
+    }
+}
+
+/// The last line of a page.
+pub fn append_end(out: &mut Text, word: &[u8], turns: u64) -> Result<(), NoMemory>
+    ensures { OnOk result (out.new ≡ out.old ++ spec.end_text word.now turns) }
+{
+    out.append(b"end ")?;
+    out.append(word)?;
+    out.append(b" turns ")?;
+    out.append_decimal(turns)?;
+    out.push(b'\n')
+}
+
+/// One answer with one binding, and its proof.
+pub fn append_answer(
+    out: &mut Text,
+    names: &[LoadName],
+    number: u64,
+    values: &[Pair],
+    lines: &[ProofLine],
+) -> Result<(), NoMemory>
+    ensures { OnOk result (out.new ≡ out.old ++ spec.answer_text names.now number values.now lines.now) }
+{
+    out.append(b"answer ")?;
+    out.append_decimal(number)?;
+    out.push(b'\n')?;
+    append_binding(out, values)?;
+    out.append(b"proof\n")?;
+    append_lines(out, names, lines)
+}
