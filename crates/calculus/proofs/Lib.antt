@@ -1,0 +1,11 @@
+pub mod AnswerLaws
+pub mod ClosedLaws
+pub mod EvidenceLaws
+pub mod InstanceLaws
+pub mod MemberLaws
+pub mod PairLaws
+pub mod PathLaws
+pub mod PlaceLaws
+pub mod RuleLaws
+pub mod StepLaws
+pub mod TruthLaws

@@ -1,0 +1,9 @@
+pub mod Answers
+pub mod Closed
+pub mod Equality
+pub mod Evidence
+pub mod Laws
+pub mod Proper
+pub mod Rules
+pub mod Tidy
+pub mod Truth
