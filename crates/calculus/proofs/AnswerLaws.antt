@@ -1,6 +1,6 @@
 -- The answer literals of the inputs that are used stay.
 use Rattle.calculus.proofs.MemberLaws.{among-filter, among-map, among-right, among-left, among-parted}
-use Rattle.std.proofs.Common.{◌≡◌, ℕ, zero, suc, ◌<◌, List, [], ◌∷◌, ◌++◌, map, filter, take, Bool, true, false, not, if◌then◌else◌, codes, Option, Some, refl, sym, ap, ◌∙◌, subst, inl, inr, ◌⊎◌, arith}
+use Rattle.std.proofs.Common.{◌≡◌, ℕ, zero, suc, ◌<◌, List, [], ◌∷◌, ◌++◌, map, filter, take, Bool, true, false, not, codes, Option, Some, refl, sym, ap, ◌∙◌, subst, inl, inr, ◌⊎◌, arith}
 use Rattle.std.specs.List.{list_any}
 use Rattle.std.specs.Str.{bytes_eq}
 use Rattle.std.proofs.lemmas.Slice.Eq.{bytes_eq-Decides}
@@ -47,14 +47,14 @@ layer_headed name g (Form-F.Row text) h = absurd (false_true h)
 layer_headed name g (Form-F.Numeral text) h = absurd (false_true h)
 layer_headed name g (Form-F.Quoted text) h = absurd (false_true h)
 
-layer_of : (name : Bytes) (f : Form) → is_headed name f ≡ true → heads_layer name (out-Form f) ≡ true
+pub layer_of : (name : Bytes) (f : Form) → is_headed name f ≡ true → heads_layer name (out-Form f) ≡ true
 unfolding is_headed
 layer_of name f h = h
 
-headed-bind : (name : Bytes) (g : Filling) (f : Form) → is_headed name f ≡ true → is_headed name (bind g f) ≡ true
+pub headed-bind : (name : Bytes) (g : Filling) (f : Form) → is_headed name f ≡ true → is_headed name (bind g f) ≡ true
 headed-bind name g f h = ap (λ x. is_headed name (bind g x)) (sym (roll-out-Form f)) ∙ layer_headed name g (out-Form f) (layer_of name f h)
 
-no-answer : (a b : Form) → is_answer (equal a b) ≡ false
+pub no-answer : (a b : Form) → is_answer (equal a b) ≡ false
 no-answer a b = headed-List (codes "!answer") (form.Word (codes "equal") ∷ a ∷ b ∷ []) ∙ word-Word (codes "!answer") (codes "equal")
 
 -- ---- members

@@ -1,23 +1,22 @@
 -- Row variables come in by no rule, and what a closing filling gives is closed.
 use Rattle.kif_tree.proofs.TermLaws.{clean-Variable, clean-Word, clean-List, clean_all}
-use Rattle.std.proofs.Common.{◌≡◌, ℕ, ◌+◌, List, [], ◌∷◌, ◌++◌, map, filter, Bool, true, false, not, ◌&&◌, if◌then◌else◌, codes, decimal, refl, sym, ap, ap₂, ◌∙◌}
-use Rattle.std.specs.List.{list_all, list_any}
+use Rattle.std.proofs.Common.{◌≡◌, ℕ, ◌+◌, List, [], ◌∷◌, ◌++◌, map, filter, Bool, true, false, not, ◌&&◌, if◌then◌else◌, codes, refl, sym, ap₂, ◌∙◌}
+use Rattle.std.specs.List.{list_any}
 use Rattle.std.specs.Str.{bytes_eq}
 use Rattle.kif_tree.specs.declared.form.Form.{Form}
 use Rattle.kif_tree.specs.declared.form.Form.TheVariants as form
 use Rattle.kif_tree.specs.declared.subst.Pair.{Pair}
 use Rattle.kif_tree.specs.declared.clause.Literal.{Literal}
-use Rattle.kif_tree.specs.Terms.{Bytes, distinct, clean, clean_step}
+use Rattle.kif_tree.specs.Terms.{Bytes, distinct, clean}
 use Rattle.kif_tree.specs.Subst.{lookup, Filling, bind, via}
 use Rattle.sigma_base.specs.Lists.{Each}
-use Rattle.kif_tree.specs.FormLaws.{induction, fold-Word, fold-Variable, fold-Row, fold-Numeral, fold-Quoted, fold-List}
 use Rattle.kif_tree.specs.Clauses.{Literals, bind_clause, clause_variables, same_literal}
 use Rattle.calculus.specs.Tidy.{numbered, renaming, without_repeats, tidy, back_over, turned_back, new_name}
 use Rattle.calculus.specs.Rules.{Frame, framed, bind_frame, plugged}
 use Rattle.calculus.specs.Equality.{equal}
 use Rattle.calculus.specs.Closed.{clean_clause, clean_pairs, Closes}
-use Rattle.kif_tree.proofs.SubstLaws.{bind-Word, bind-Variable, bind-Numeral, bind-Quoted, bind-List, clean-bind}
-use Rattle.calculus.proofs.TruthLaws.{both, false_true}
+use Rattle.kif_tree.proofs.SubstLaws.{clean-bind}
+use Rattle.calculus.proofs.TruthLaws.{both}
 
 pub joined_true : (a b : Bool) → a ≡ true → b ≡ true → (a && b) ≡ true
 joined_true a b h k = ap₂ ◌&&◌ h k

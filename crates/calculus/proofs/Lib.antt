@@ -6,6 +6,10 @@ pub mod MemberLaws
 pub mod PairLaws
 pub mod PathLaws
 pub mod PlaceLaws
+pub mod QueryLaws
+pub mod RenamingLaws
+pub mod RepeatLaws
 pub mod RuleLaws
+pub mod SatisfactionLaws
 pub mod StepLaws
 pub mod TruthLaws

@@ -26,7 +26,7 @@ value-pairs g (x ∷ names) v h = go (bytes_eq x v) refl (value-pairs g names v)
     go true e k = ap g ((bytes_eq-Decides x v).0 e)
     go false e k = k (ap (λ (b : Bool). b || list_any (bytes_eq v) names) (sym (flip v x ∙ e)) ∙ h)
 
-clause-agree : (f g : Filling) (clause : Literals) → Each (Agree f g) (clause_variables clause) → bind_clause f clause ≡ bind_clause g clause
+pub clause-agree : (f g : Filling) (clause : Literals) → Each (Agree f g) (clause_variables clause) → bind_clause f clause ≡ bind_clause g clause
 clause-agree f g [] h = refl
 clause-agree f g (l ∷ ls) h =
     ap₂ (λ (a : Form) (rest : Literals). let made : Literal = record { positive = l.positive; atom = a } in made ∷ rest)

@@ -53,7 +53,7 @@ within atoms (frame ∷ frames) a b h e =
     let parts = all_parted (satisfies atoms) (inside frames a b) (congruence frame (plugged frames a) (plugged frames b) ∷ congruence frame (plugged frames b) (plugged frames a) ∷ []) h in
     lifted atoms frame (plugged frames a) (plugged frames b) parts.1 (within atoms frames a b parts.0 e)
 
-alike : (a b : Bool) → (a ≡ true → b ≡ true) → (b ≡ true → a ≡ true) → a ≡ b
+pub alike : (a b : Bool) → (a ≡ true → b ≡ true) → (b ≡ true → a ≡ true) → a ≡ b
 alike true true f g = refl
 alike true false f g = sym (f refl)
 alike false true f g = g refl

@@ -34,7 +34,7 @@ opposed : (atoms : List Form) (p q : Bool) (a b : Form) → p ≡ true → q ≡
 opposed atoms p q a b h k e =
     ap (λ (x : Form). said (is_answer a) p (is_true atoms a) && said (is_answer x) q (is_true atoms x)) (sym e) ∙ contrary (is_answer a) p q (is_true atoms a) h k
 
-cut : (p q a b c d : Bool) → (a || (p || b)) ≡ true → (c || (q || d)) ≡ true → (p && q) ≡ false → ((a || b) || (c || d)) ≡ true
+pub cut : (p q a b c d : Bool) → (a || (p || b)) ≡ true → (c || (q || d)) ≡ true → (p && q) ≡ false → ((a || b) || (c || d)) ≡ true
 cut p q true b c d left right apart = refl
 cut p q false true c d left right apart = refl
 cut p q false false true d left right apart = refl

@@ -1,5 +1,5 @@
 -- Answer literals, the negated query under a binding, and evidence for a query.
-use Rattle.std.specs.Prelude.{◌≡◌, ℕ, List, [], ◌∷◌, map, filter, true, Some, codes, ◌⊎◌}
+use Rattle.std.specs.Prelude.{◌≡◌, List, [], ◌∷◌, map, filter, true, Some, codes, ◌⊎◌}
 use Rattle.sigma_base.specs.Lists.{Each}
 use Rattle.kif_tree.specs.declared.form.Form.{Form, out-Form}
 use Rattle.kif_tree.specs.declared.form.Form.TheVariants as form
@@ -10,7 +10,7 @@ use Rattle.kif_tree.specs.Clauses.{Literals, bind_literal, bare, is_answer}
 use Rattle.calculus.specs.Truth.{Refutes}
 use Rattle.calculus.specs.Rules.{nth}
 use Rattle.calculus.specs.Closed.{Closes}
-use Rattle.calculus.specs.Equality.{yes, equal, reflexivity, IsEqualityInstance}
+use Rattle.calculus.specs.Equality.{yes, reflexivity, IsEqualityInstance}
 use Rattle.calculus.specs.Evidence.{Use}
 
 abbrev pub Among : {X : Type 0} → X → List X → Type 0

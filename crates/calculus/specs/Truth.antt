@@ -1,5 +1,5 @@
 -- Truth assignments, and when one satisfies a ground clause.
-use Rattle.std.specs.Prelude.{◌≡◌, List, Bool, true, false, not, if◌then◌else◌}
+use Rattle.std.specs.Prelude.{◌≡◌, List, Bool, false, not, if◌then◌else◌}
 use Rattle.std.specs.List.{list_all, list_any}
 use Rattle.kif_tree.specs.declared.form.Form.{Form}
 use Rattle.kif_tree.specs.declared.clause.Literal.{Literal}

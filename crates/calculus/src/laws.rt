@@ -30,3 +30,48 @@ pub fn recursion_law()
 pub fn pairs_law()
     ensures { laws.PairsSuffice }
 {}
+
+/// The evidence of a clause that has answer literals alone, or no literal, refutes.
+pub fn refutation_law()
+    ensures { laws.EvidenceRefutes }
+{}
+
+/// The evidence of a clause that has answer literals alone is evidence for the query under the bindings that it shows.
+pub fn query_law()
+    ensures { laws.QueryEvidence }
+{}
+
+/// The evidence of a clause without literals is a contradiction of the inputs.
+pub fn contradiction_law()
+    ensures { laws.ContradictionEvidence }
+{}
+
+/// Satisfaction doesn't change under repeats and order of literals.
+pub fn satisfaction_law()
+    ensures { laws.SatisfactionIsOfLiterals }
+{}
+
+/// A truth assignment that satisfies two clauses satisfies what one resolution on an atom concludes from them.
+pub fn resolution_law()
+    ensures { laws.ResolutionHolds }
+{}
+
+/// No truth assignment satisfies a clause together with the negation of each of its literals.
+pub fn negation_law()
+    ensures { laws.NegationRefutes }
+{}
+
+/// A substitution followed by another acts as their composition on clauses.
+pub fn composition_law()
+    ensures { laws.ClausesCompose }
+{}
+
+/// A tidy clause stays as it is when it is made tidy again.
+pub fn idempotence_law()
+    ensures { laws.TidyIsIdempotent }
+{}
+
+/// Two clauses that substitutions turn into each other have one tidy form.
+pub fn renaming_law()
+    ensures { laws.TidiesAlike }
+{}

@@ -5,5 +5,9 @@
 mod laws;
 mod step;
 
-pub use laws::{answers_law, evidence_law, instances_law, pairs_law, recursion_law, uses_law};
+pub use laws::{
+    answers_law, composition_law, contradiction_law, evidence_law, idempotence_law, instances_law,
+    negation_law, pairs_law, query_law, recursion_law, refutation_law, renaming_law,
+    resolution_law, satisfaction_law, uses_law,
+};
 pub use step::Step;
