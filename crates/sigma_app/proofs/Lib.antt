@@ -1,2 +1,3 @@
 pub mod MatchLaws
+pub mod ToolLaws
 pub mod WordLaws

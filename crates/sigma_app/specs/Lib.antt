@@ -1,3 +1,5 @@
 pub mod Matching
 pub mod Page
+pub mod Proof
+pub mod Tool
 pub mod Words

@@ -47,9 +47,9 @@ abbrev pub binding_text : List Pair → Bytes
 binding_text [] = codes "  yes\n"
 binding_text (pair ∷ pairs) = flat_map pair_text (pair ∷ pairs)
 
-abbrev pub answer_text : List LoadName → ℕ → List Pair → List ProofLine → Bytes
+unfoldable pub answer_text : List LoadName → ℕ → List Pair → List ProofLine → Bytes
 answer_text names number values lines =
     codes "answer " ++ (decimal number ++ (10 ∷ (binding_text values ++ (codes "proof\n" ++ lines_text names 0 lines))))
 
-abbrev pub end_text : Bytes → ℕ → Bytes
+unfoldable pub end_text : Bytes → ℕ → Bytes
 end_text word turns = codes "end " ++ (word ++ (codes " turns " ++ (decimal turns ++ 10 ∷ [])))

@@ -3,6 +3,8 @@
 
 mod matching;
 mod page;
+mod proof;
+mod tool;
 mod words;
 
 pub use matching::{Match, binding_of, first_match, match_query};

@@ -123,6 +123,7 @@ pub fn append_binding(out: &mut Text, values: &[Pair]) -> Result<(), NoMemory>
 }
 
 /// The last line of a page.
+#[tactic(auto, unfolding(crate::specs::Page::end_text))]
 pub fn append_end(out: &mut Text, word: &[u8], turns: u64) -> Result<(), NoMemory>
     ensures { OnOk result (out.new ≡ out.old ++ spec.end_text word.now turns) }
 {
@@ -134,6 +135,7 @@ pub fn append_end(out: &mut Text, word: &[u8], turns: u64) -> Result<(), NoMemor
 }
 
 /// One answer with one binding, and its proof.
+#[tactic(auto, unfolding(crate::specs::Page::answer_text))]
 pub fn append_answer(
     out: &mut Text,
     names: &[LoadName],

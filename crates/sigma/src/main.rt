@@ -1,0 +1,45 @@
+//! The program: the tool over files of the disk and standard output.
+#![tactic(auto)]
+ghost use Rattle.std.specs.Prelude.{◌≡◌, ◌^◌, ◌<◌, ◌-◌, length};
+
+mod screen;
+mod shelf;
+
+use crate::screen::Screen;
+use crate::shelf::FileShelf;
+use sig_io::{Files, Sink, Words};
+use sigma_base::NoMemory;
+use std::env;
+use std::io::{self, ErrorKind};
+use std::process::ExitCode;
+use std::rt::Env;
+
+/// The words after the program's name, or none where one of them isn't UTF-8.
+fn words_of<R: Env + AllocGlobal>(rt: &R) -> Result<Words, NoMemory> {
+    let mut words = Words::new(rt.alloc());
+    let arguments = match env::args(rt) {
+        Ok(arguments) => arguments,
+        Err(error) if error.kind() == ErrorKind::OutOfMemory => return Err(NoMemory),
+        Err(_) => return Ok(words),
+    };
+    for word in arguments.skip(1) {
+        if words.count() == u32::MAX {
+            return Err(NoMemory);
+        }
+        words.push(word.as_str())?;
+    }
+    Ok(words)
+}
+
+fn main(rt: HostRuntime) -> ExitCode {
+    let alloc = rt.alloc();
+    let Ok(words) = words_of(&rt) else {
+        return ExitCode::from(9);
+    };
+    let mut files = FileShelf::new(&rt, alloc);
+    let mut screen = Screen::over(io::writer(&rt));
+    let mut body = Vec::new(alloc);
+    let _ = files.fetch("x", words.count() as usize, &mut body);
+    let _ = screen.write(body.as_slice());
+    ExitCode::from(0)
+}

@@ -1,0 +1,7 @@
+use Rattle.std.proofs.Common.{◌≡◌, ◌∷◌, ◌++◌, [], take, map, codes}
+use Rattle.kif_tree.specs.declared.form.Form.TheVariants as form
+use Rattle.kif_tree.specs.declared.subst.Pair.{Pair}
+use Rattle.sigma_app.proofs.proof.answer_atom.Given as goal
+
+abbrev pub invariant-loop-pair : goal.invariant-loop-pair
+invariant-loop-pair l = l.parts ≡ l.initial.parts ++ map (λ (pair : Pair). pair.term) (take l.pair-index l.values)
