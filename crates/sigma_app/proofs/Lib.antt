@@ -1,3 +1,5 @@
 pub mod MatchLaws
+pub mod PlainLaws
+pub mod RunLaws
 pub mod ToolLaws
 pub mod WordLaws

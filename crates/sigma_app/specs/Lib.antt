@@ -1,5 +1,6 @@
 pub mod Matching
 pub mod Page
 pub mod Proof
+pub mod Run
 pub mod Tool
 pub mod Words

@@ -1,11 +1,12 @@
 -- What the tool answers: a status and a text, from the words and what the files hold.
-use Rattle.std.specs.Prelude.{◌≡◌, ◌≢◌, ℕ, nat_le, List, [], ◌∷◌, ◌++◌, length, Option, Some, None, MatchOption, IfSome, if◌then◌else◌, codes, ◌⊎◌}
+use Rattle.std.specs.Prelude.{◌≡◌, ◌≢◌, ℕ, nat_le, List, [], ◌∷◌, ◌++◌, length, Option, Some, None, MatchOption, MatchBool, IfSome, codes, ◌⊎◌}
 use Rattle.kif_tree.specs.declared.form.Form.{Form}
 use Rattle.kif_tree.specs.declared.place.Located.{Located}
 use Rattle.kif_tree.specs.declared.place.LoadName.{LoadName}
 use Rattle.kif_tree.specs.declared.subst.Pair.{Pair}
 use Rattle.kif_tree.specs.Terms.{Bytes}
 use Rattle.sig_io.specs.Told.{body_of}
+use Rattle.kif_reader.specs.Plain.{ReadsFacts, SpellsGoal}
 use Rattle.sigma_app.specs.Words.{Asked, asked}
 use Rattle.sigma_app.specs.Matching.{IsFirstMatch, HasNoMatchIn, binding}
 use Rattle.sigma_app.specs.Proof.{values, lines_of}
@@ -61,11 +62,41 @@ pub record ShowsNone (facts : List Located) (query : Form) (status : ℕ) (text 
 abbrev pub Shows : Bytes → List Located → Form → ℕ → Bytes → Type 0
 Shows path facts query status text = ShowsAnswer path facts query status text ⊎ ShowsNone facts query status text
 
+-- the text of the file and the query are read
+pub record IsRead (asks : Asked) (body : Bytes) (facts : List Located) (query : Form) : Type 0 where
+  pub facts_read : ReadsFacts 1 body facts
+  pub query_read : SpellsGoal asks.query query
+
+pub record Replies (asks : Asked) (body : Bytes) (status : ℕ) (text : Bytes) : Type 0 where
+  pub facts : List Located
+  pub query : Form
+  pub read : IsRead asks body facts query
+  pub shown : Shows asks.path facts query status text
+
+-- the text of the file or the query is not plain
+pub record Declines (asks : Asked) (body : Bytes) (status : ℕ) (text : Bytes) : Type 0 where
+  pub unread : (facts : List Located) (query : Form) → IsRead asks body facts query → ⊥
+  pub done : status ≡ 10
+  pub page : text ≡ not_built
+
+-- over the text of the file
+abbrev pub OnBody : Asked → Bytes → ℕ → Bytes → Type 0
+OnBody asks body status text = Replies asks body status text ⊎ Declines asks body status text
+
 -- ---- the whole tool
 
 pub record Is (wanted : ℕ) (page : Bytes) (status : ℕ) (text : Bytes) : Type 0 where
   pub done : status ≡ wanted
   pub page_is : text ≡ page
+
+-- of a file as it is found: not at all, with too many bytes, or whole
+abbrev pub OnFile : Asked → Option Bytes → ℕ → Bytes → Type 0
+OnFile asks None status text = Is 3 (absent_text asks.path) status text
+OnFile asks (Some body) status text = MatchBool (nat_le (length body) 8388608) (OnBody asks body status text) (Is 10 not_built status text)
+
+-- the status and the text of the tool for the words, where the files hold these contents
+abbrev pub Tool : List Bytes → List (Bytes × Bytes) → ℕ → Bytes → Type 0
+Tool words contents status text = MatchOption (asked words) (Is 2 usage status text) (λ asks. OnFile asks (body_of contents asks.path) status text)
 
 -- the text where the file could not be fetched
 pub record IsFault (words : List Bytes) (text : Bytes) : Type 0 where
@@ -77,3 +108,7 @@ pub record IsFault (words : List Bytes) (text : Bytes) : Type 0 where
 abbrev pub Agrees : Option (List (Bytes × Bytes)) → List (Bytes × Bytes) → Type 0
 Agrees told contents = IfSome told (λ files. files ≡ contents)
 
+pub record GivesTool (words : List Bytes) (told : Option (List (Bytes × Bytes))) (status : ℕ) (text : Bytes) : Type 0 where
+  pub contents : List (Bytes × Bytes)
+  pub agrees : Agrees told contents
+  pub tool : Tool words contents status text

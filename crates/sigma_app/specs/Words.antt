@@ -2,11 +2,16 @@
 use Rattle.std.specs.Prelude.{ℕ, ◌==◌, nat_le, List, [], ◌∷◌, length, Bool, true, false, not, ◌&&◌, if◌then◌else◌, Option, Some, None, codes}
 use Rattle.std.specs.Str.{bytes_eq}
 use Rattle.kif_tree.specs.Terms.{Bytes}
+use Rattle.sigma_app.specs.declared.words.Ask.{Ask}
 
 -- what is asked, and of which file
 pub record Asked : Type 0 where
   pub query : Bytes
   pub path : Bytes
+
+-- the bytes that the words lend
+abbrev pub asked_value : Ask → Asked
+asked_value ask = record { query = ask.query.now; path = ask.path.now }
 
 abbrev pub begins_with_dash : Bytes → Bool
 begins_with_dash [] = false

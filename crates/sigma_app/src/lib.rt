@@ -7,6 +7,4 @@ mod proof;
 mod tool;
 mod words;
 
-pub use matching::{Match, binding_of, first_match, match_query};
-pub use page::{ProofLine, Rule, append_answer, append_end};
-pub use words::{Asked, BYTE_LIMIT, asked_of};
+pub use tool::run_tool;

@@ -10,7 +10,7 @@ pub const BYTE_LIMIT: usize = 8_388_608;
 
 /// What is asked, and of which file.
 #[derive(Clone, Copy, Debug)]
-pub struct Asked<'a> {
+pub struct Ask<'a> {
     pub query: &'a str,
     pub path: &'a str,
 }
@@ -32,8 +32,8 @@ fn is_ask(command: &str, query: &str, path: &str) -> bool
 
 /// What the words ask, or `None` where they are refused.
 #[tactic(auto, using(crate::proofs::WordLaws::asked_laws))]
-pub fn asked_of(words: &Words) -> Option<Asked<'_>>
-    ensures { option_map (λ asked. record { query = asked.query.now; path = asked.path.now }) result ≡ spec.asked words.now }
+pub fn asked_of(words: &Words) -> Option<Ask<'_>>
+    ensures { option_map spec.asked_value result ≡ spec.asked words.now }
 {
     if words.count() != 3 {
         return None;
@@ -42,7 +42,7 @@ pub fn asked_of(words: &Words) -> Option<Asked<'_>>
     let query = words.word(1)?;
     let path = words.word(2)?;
     if is_ask(command, query, path) {
-        Some(Asked { query, path })
+        Some(Ask { query, path })
     } else {
         None
     }

@@ -1,0 +1,73 @@
+-- What a run of the tool leaves: the status, the bytes that were appended and the counts of faults.
+use Rattle.std.specs.Prelude.{◌≡◌, ℕ, List, Option, Some, None, IfSome, MatchOption, ◌⊎◌}
+use Rattle.std.specs.Io.KnownBytes.{append_known}
+use Rattle.kif_tree.specs.Terms.{Bytes}
+use Rattle.sig_io.specs.Causes.{Rose}
+use Rattle.sig_io.specs.Told.{body_of, WritesPrefix}
+use Rattle.sigma_app.specs.Words.{Asked, asked}
+use Rattle.sigma_app.specs.Tool.{Is, usage, fault_text, OnFile, GivesTool, IsFault}
+
+-- a status that tells of the outside or of memory: a fault of the files, a failed write, want of memory
+abbrev pub IsTrouble : ℕ → Type 0
+IsTrouble status = (status ≡ 4) ⊎ ((status ≡ 8) ⊎ (status ≡ 9))
+
+-- a failed write, or want of memory
+abbrev pub IsCutShort : ℕ → Type 0
+IsCutShort status = (status ≡ 8) ⊎ (status ≡ 9)
+
+-- the status and the text are the tool's, and the whole text was appended
+pub record Appends (words : List Bytes) (told : Option (List (Bytes × Bytes))) (old new : Option Bytes) (status : ℕ) : Type 0 where
+  pub text : Bytes
+  pub gives : GivesTool words told status text
+  pub appended : new ≡ append_known old text
+
+-- the count of the files rose, and the text that names the file was appended
+pub record ReportsFault (words : List Bytes) (before now : ℕ) (old new : Option Bytes) : Type 0 where
+  pub rose : Rose before now
+  pub text : Bytes
+  pub fault : IsFault words text
+  pub appended : new ≡ append_known old text
+
+-- a text that the tool gives under another status: its own, or that of a file that could not be fetched
+pub record IsMeant (words : List Bytes) (told : Option (List (Bytes × Bytes))) (text : Bytes) : Type 0 where
+  pub status : ℕ
+  pub either : GivesTool words told status text ⊎ ((status ≡ 4) × IsFault words text)
+
+-- nothing was appended, or a prefix of a text of another status
+abbrev pub AppendsPrefix : List Bytes → Option (List (Bytes × Bytes)) → Option Bytes → Option Bytes → Type 0
+AppendsPrefix words told old new = (new ≡ old) ⊎ ((text : Bytes) × IsMeant words told text × WritesPrefix old new text)
+
+-- ---- the parts of a run
+
+abbrev pub MayHaveRisen : ℕ → ℕ → Type 0
+MayHaveRisen before now = (now ≡ before) ⊎ Rose before now
+
+-- the file was found as one that agrees with what is told
+pub record Found (asks : Asked) (told : Option (List (Bytes × Bytes))) (before now status : ℕ) (text : Bytes) : Type 0 where
+  pub body : Option Bytes
+  pub agrees : IfSome told (λ files. body_of files asks.path ≡ body)
+  pub quiet : now ≡ before
+  pub on_file : OnFile asks body status text
+
+pub record Failed (asks : Asked) (before now status : ℕ) (text : Bytes) : Type 0 where
+  pub rose : Rose before now
+  pub fault : Is 4 (fault_text asks.path) status text
+
+abbrev pub OnFetch : Asked → Option (List (Bytes × Bytes)) → ℕ → ℕ → ℕ → Bytes → Type 0
+OnFetch asks told before now status text = Found asks told before now status text ⊎ Failed asks before now status text
+
+abbrev pub OnWords : List Bytes → Option (List (Bytes × Bytes)) → ℕ → ℕ → ℕ → Bytes → Type 0
+OnWords words told before now status text =
+    MatchOption (asked words) ((now ≡ before) × Is 2 usage status text) (λ asks. OnFetch asks told before now status text)
+
+pub record PrintsAll (status : ℕ) (text : Bytes) (old new : Option Bytes) (before now result : ℕ) : Type 0 where
+  pub is : result ≡ status
+  pub appended : new ≡ append_known old text
+  pub quiet : now ≡ before
+
+pub record PrintsPart (text : Bytes) (old new : Option Bytes) (before now result : ℕ) : Type 0 where
+  pub prefix : WritesPrefix old new text
+  pub cause : ((result ≡ 8) × Rose before now) ⊎ ((result ≡ 9) × (now ≡ before))
+
+abbrev pub Printed : ℕ → Bytes → Option Bytes → Option Bytes → ℕ → ℕ → ℕ → Type 0
+Printed status text old new before now result = PrintsAll status text old new before now result ⊎ PrintsPart text old new before now result
