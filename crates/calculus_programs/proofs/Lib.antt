@@ -1,1 +1,3 @@
 pub mod ChoiceLaws
+pub mod ShapeLaws
+pub mod TidyingLaws
