@@ -3,10 +3,12 @@
 
 mod proper;
 mod refute;
+mod rules;
 mod tidying;
 mod truth;
 
 pub use proper::{has_word_heads, is_proper};
 pub use refute::refutes;
+pub use rules::{factor, resolve};
 pub use tidying::{append_filled, is_tidy, same_clauses, tidy};
 pub use truth::{holds, is_true, satisfies, satisfies_all};
