@@ -14,7 +14,8 @@ use Rattle.sigma_base.specs.Lists.{Each, each_left, each_right, each_map, each_a
 use Rattle.calculus.specs.declared.step.Step.{Step}
 use Rattle.kif_tree.specs.Clauses.{Literals, bind_literal, bind_clause, is_word, begins_with, heads_layer, is_headed, is_answer, clause_variables, same_sign, same_literal}
 use Rattle.calculus.specs.Tidy.{without_repeats, renaming, tidy, back_over, turned_back}
-use Rattle.calculus.specs.Rules.{after, given, nth, Picked, pick, others, opened, sides, resolves, resolved, merges, factored, Replaced, to_side, replaces, changed, replacement_by, replaced_by, replaced, replacement, untidy, clause_of, Derivation}
+use Rattle.calculus.specs.declared.places.Replaced.{Replaced}
+use Rattle.calculus.specs.Rules.{after, given, nth, Picked, pick, others, opened, sides, resolves, resolved, merges, factored, to_side, replaces, changed, replacement_by, replaced_by, replaced, replacement, untidy, clause_of, Derivation}
 use Rattle.calculus.specs.Equality.{equal}
 use Rattle.calculus.specs.Evidence.{Use, step_uses, uses_within, uses}
 use Rattle.calculus.specs.Answers.{Among, Answers, UseAnswers}

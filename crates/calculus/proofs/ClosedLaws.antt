@@ -12,7 +12,8 @@ use Rattle.kif_tree.specs.Subst.{lookup, Filling, bind, via}
 use Rattle.sigma_base.specs.Lists.{Each}
 use Rattle.kif_tree.specs.Clauses.{Literals, bind_clause, clause_variables, same_literal}
 use Rattle.calculus.specs.Tidy.{numbered, renaming, without_repeats, tidy, back_over, turned_back, new_name}
-use Rattle.calculus.specs.Rules.{Frame, framed, bind_frame, plugged}
+use Rattle.calculus.specs.declared.places.Frame.{Frame}
+use Rattle.calculus.specs.Rules.{framed, bind_frame, plugged}
 use Rattle.calculus.specs.Equality.{equal}
 use Rattle.calculus.specs.Closed.{clean_clause, clean_pairs, Closes}
 use Rattle.kif_tree.proofs.SubstLaws.{clean-bind}

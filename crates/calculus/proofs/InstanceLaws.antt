@@ -8,7 +8,11 @@ use Rattle.sigma_base.specs.Lists.{Each, each_append, each_map}
 use Rattle.calculus.specs.declared.step.Step.{Step}
 use Rattle.kif_tree.specs.Clauses.{Literals, bind_clause, bare}
 use Rattle.calculus.specs.Tidy.{tidy, turned_back}
-use Rattle.calculus.specs.Rules.{after, given, nth, Picked, pick, others, Frame, framed, bind_frame, plugged, Opened, opened, Sides, sides, resolves, resolved, merges, factored, Replaced, to_side, replaces, changed, replacement_by, replaced_by, replaced, replacement, untidy, clause_of, Derivation}
+use Rattle.calculus.specs.declared.places.Frame.{Frame}
+use Rattle.calculus.specs.declared.places.Opened.{Opened}
+use Rattle.calculus.specs.declared.places.Sides.{Sides}
+use Rattle.calculus.specs.declared.places.Replaced.{Replaced}
+use Rattle.calculus.specs.Rules.{after, given, nth, Picked, pick, others, framed, bind_frame, plugged, opened, sides, resolves, resolved, merges, factored, to_side, replaces, changed, replacement_by, replaced_by, replaced, replacement, untidy, clause_of, Derivation}
 use Rattle.calculus.specs.Evidence.{list_from, equalities, step_evidence, evidence_within, evidence, Use, step_uses, uses_within, uses}
 use Rattle.calculus.specs.Equality.{symmetry, congruence, replacing, inside, congruences, equal, IsEqualityInstance}
 use Rattle.kif_tree.specs.Terms.{clean}

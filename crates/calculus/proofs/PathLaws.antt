@@ -3,7 +3,8 @@ use Rattle.std.proofs.Common.{◌≡◌, List, [], ◌∷◌, ◌++◌, Bool, tr
 use Rattle.std.specs.List.{list_all}
 use Rattle.kif_tree.specs.declared.form.Form.{Form}
 use Rattle.calculus.specs.Truth.{is_true, satisfies}
-use Rattle.calculus.specs.Rules.{Frame, framed, plugged, is_empty}
+use Rattle.calculus.specs.declared.places.Frame.{Frame}
+use Rattle.calculus.specs.Rules.{framed, plugged, is_empty}
 use Rattle.calculus.specs.Equality.{equal, symmetry, congruence, replacing, inside, congruences}
 use Rattle.calculus.proofs.TruthLaws.{both, false_true}
 

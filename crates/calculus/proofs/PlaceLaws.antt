@@ -7,7 +7,10 @@ use Rattle.kif_tree.specs.declared.form.Form.TheOpen.{Form-F}
 use Rattle.kif_tree.specs.Terms.{Bytes}
 use Rattle.kif_tree.specs.Subst.{Filling, bind}
 use Rattle.kif_tree.specs.Clauses.{is_word}
-use Rattle.calculus.specs.Rules.{after, given, nth, Picked, put_first, pick, Frame, framed, bind_frame, plugged, Argument, argument_of, argument, Opened, put_around, opened, Sides, sides_of, sides_in, sides}
+use Rattle.calculus.specs.declared.places.Frame.{Frame}
+use Rattle.calculus.specs.declared.places.Opened.{Opened}
+use Rattle.calculus.specs.declared.places.Sides.{Sides}
+use Rattle.calculus.specs.Rules.{after, given, nth, Picked, put_first, pick, framed, bind_frame, plugged, Argument, argument_of, argument, put_around, opened, sides_of, sides_in, sides}
 use Rattle.calculus.specs.Equality.{equal}
 use Rattle.kif_tree.proofs.SubstLaws.{bind-List, bind-Word}
 

@@ -9,7 +9,11 @@ use Rattle.kif_tree.specs.SameLaws.{same-Decides}
 use Rattle.kif_tree.specs.Clauses.{Literals, bind_literal, bind_clause, is_headed, heads_layer, is_answer, same_sign}
 use Rattle.kif_tree.specs.Subst.{Filling, bind, via}
 use Rattle.calculus.specs.Truth.{is_true, satisfies}
-use Rattle.calculus.specs.Rules.{after, given, Picked, pick, others, Frame, framed, plugged, bind_frame, Opened, opened, is_empty, is_variable, Sides, sides, resolves, resolved, merges, factored, Replaced, from_side, to_side, replaces, changed, replacement_by, replaced_by, replaced}
+use Rattle.calculus.specs.declared.places.Frame.{Frame}
+use Rattle.calculus.specs.declared.places.Opened.{Opened}
+use Rattle.calculus.specs.declared.places.Sides.{Sides}
+use Rattle.calculus.specs.declared.places.Replaced.{Replaced}
+use Rattle.calculus.specs.Rules.{after, given, Picked, pick, others, framed, plugged, bind_frame, opened, is_empty, is_variable, sides, resolves, resolved, merges, factored, from_side, to_side, replaces, changed, replacement_by, replaced_by, replaced}
 use Rattle.calculus.specs.Equality.{equal, symmetry, congruences}
 use Rattle.calculus.specs.Evidence.{equalities}
 use Rattle.kif_tree.proofs.SubstLaws.{bind-via}

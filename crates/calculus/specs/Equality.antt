@@ -4,7 +4,8 @@ use Rattle.kif_tree.specs.declared.form.Form.{Form}
 use Rattle.kif_tree.specs.declared.form.Form.TheVariants as form
 use Rattle.kif_tree.specs.declared.clause.Literal.{Literal}
 use Rattle.kif_tree.specs.Clauses.{Literals}
-use Rattle.calculus.specs.Rules.{Frame, framed, plugged}
+use Rattle.calculus.specs.declared.places.Frame.{Frame}
+use Rattle.calculus.specs.Rules.{framed, plugged}
 use Rattle.calculus.specs.Closed.{ground_clause}
 
 abbrev pub yes : Form → Literal

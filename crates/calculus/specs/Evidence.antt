@@ -4,7 +4,8 @@ use Rattle.kif_tree.specs.Subst.{lookup, Filling, bind, via}
 use Rattle.calculus.specs.declared.step.Step.{Step}
 use Rattle.kif_tree.specs.Clauses.{Literals, bare}
 use Rattle.calculus.specs.Tidy.{turned_back}
-use Rattle.calculus.specs.Rules.{nth, bind_frame, Replaced, replacement, untidy}
+use Rattle.calculus.specs.declared.places.Replaced.{Replaced}
+use Rattle.calculus.specs.Rules.{nth, bind_frame, replacement, untidy}
 use Rattle.calculus.specs.Equality.{symmetry, congruences}
 
 abbrev pub list_from : {A B : Type 0} → Option A → (A → List B) → List B

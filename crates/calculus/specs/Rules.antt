@@ -6,6 +6,10 @@ use Rattle.kif_tree.specs.declared.form.Form.TheOpen.{Form-F}
 use Rattle.kif_tree.specs.declared.clause.Literal.{Literal}
 use Rattle.kif_tree.specs.Terms.{same}
 use Rattle.kif_tree.specs.Subst.{lookup, Filling, bind}
+use Rattle.calculus.specs.declared.places.Frame.{Frame}
+use Rattle.calculus.specs.declared.places.Opened.{Opened}
+use Rattle.calculus.specs.declared.places.Sides.{Sides}
+use Rattle.calculus.specs.declared.places.Replaced.{Replaced}
 use Rattle.calculus.specs.declared.step.Step.{Step}
 use Rattle.kif_tree.specs.Clauses.{Literals, bind_clause, is_word, is_answer, same_sign}
 use Rattle.calculus.specs.Tidy.{tidy}
@@ -44,12 +48,6 @@ others p = p.before ++ p.following
 
 -- ---- places in forms
 
--- a list without one of its arguments
-pub record Frame : Type 0 where
-  pub head : Form
-  pub before : List Form
-  pub following : List Form
-
 -- the list with the argument
 abbrev pub framed : Frame → Form → Form
 framed frame f = form.List (frame.head ∷ (frame.before ++ f ∷ frame.following))
@@ -81,10 +79,6 @@ argument (Form-F.Numeral text) k = None
 argument (Form-F.Quoted text) k = None
 argument (Form-F.List parts) k = argument_of parts k
 
-pub record Opened : Type 0 where
-  pub frames : List Frame
-  pub inner : Form
-
 abbrev pub put_around : Frame → Opened → Opened
 put_around frame o = record { frames = frame ∷ o.frames; inner = o.inner }
 
@@ -106,10 +100,6 @@ is_variable (Form-F.Quoted text) = false
 is_variable (Form-F.List parts) = false
 
 -- ---- equalities
-
-pub record Sides : Type 0 where
-  pub left : Form
-  pub right : Form
 
 abbrev pub sides_of : List Form → Option Sides
 sides_of (head ∷ a ∷ b ∷ []) = given (is_word (codes "equal") (out-Form head)) (Some (record { left = a; right = b }))
@@ -142,13 +132,6 @@ merges f k d = same_sign k.positive d.positive && (not (is_answer k.atom) && (no
 abbrev pub factored : Literals → ℕ → ℕ → Filling → Option Literals
 factored clause i j f = after (pick clause j) (λ d. after (pick d.before i) (λ k.
     given (merges f k.chosen d.chosen) (Some (bind_clause f (others d)))))
-
--- a replacement: the conclusion, the sides of the equality that was used, and the lists round the replaced place
-pub record Replaced : Type 0 where
-  pub conclusion : Literals
-  pub left : Form
-  pub right : Form
-  pub frames : List Frame
 
 abbrev pub from_side : Bool → Sides → Form
 from_side flipped e = if flipped then e.right else e.left

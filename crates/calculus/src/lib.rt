@@ -3,6 +3,7 @@
 #![tactic(auto)]
 
 mod laws;
+mod places;
 mod step;
 
 pub use laws::{
@@ -10,4 +11,5 @@ pub use laws::{
     negation_law, pairs_law, query_law, recursion_law, refutation_law, renaming_law,
     resolution_law, satisfaction_law, uses_law,
 };
+pub use places::{Frame, Opened, Replaced, Sides};
 pub use step::Step;

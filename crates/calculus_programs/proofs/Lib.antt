@@ -1,0 +1,4 @@
+pub mod ChoiceLaws
+pub mod PickLaws
+pub mod ShapeLaws
+pub mod TidyingLaws

@@ -1,0 +1,9 @@
+use Rattle.std.proofs.Common.{◌≡◌, ◌∷◌, [], ◌++◌, map, ◌+◌, decimal, ap, ◌∙◌, arith}
+use Rattle.std.specs.Int.Digits.{digits_of}
+use Rattle.std.proofs.lemmas.Fmt.{decimal-digits_of}
+use Rattle.calculus_programs.proofs.tidying.new_name.Goals as goal
+
+pub returns : goal.returns
+returns c =
+    let spelled : c.append_decimal.new.self ≡ 88 ∷ decimal c.args.number = grind (arith, c.in_ok-append_decimal.ensures.ok, c.in_ok-name.ensures) in
+    spelled ∙ ap (λ digits. 88 ∷ digits) (decimal-digits_of c.args.number (omega arith) (omega arith))
