@@ -7,7 +7,8 @@ mod shelf;
 
 use crate::screen::Screen;
 use crate::shelf::FileShelf;
-use sig_io::{Files, Sink, Words};
+use sig_io::Words;
+use sigma_app::run_tool;
 use sigma_base::NoMemory;
 use std::env;
 use std::io::{self, ErrorKind};
@@ -32,14 +33,10 @@ fn words_of<R: Env + AllocGlobal>(rt: &R) -> Result<Words, NoMemory> {
 }
 
 fn main(rt: HostRuntime) -> ExitCode {
-    let alloc = rt.alloc();
     let Ok(words) = words_of(&rt) else {
         return ExitCode::from(9);
     };
-    let mut files = FileShelf::new(&rt, alloc);
+    let mut files = FileShelf::new(&rt, rt.alloc());
     let mut screen = Screen::over(io::writer(&rt));
-    let mut body = Vec::new(alloc);
-    let _ = files.fetch("x", words.count() as usize, &mut body);
-    let _ = screen.write(body.as_slice());
-    ExitCode::from(0)
+    ExitCode::from(run_tool(rt.alloc(), &words, &mut files, &mut screen))
 }

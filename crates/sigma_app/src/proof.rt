@@ -1,12 +1,13 @@
 //! The proof that a fact answers a query.
 ghost use Rattle.std.specs.Prelude.{◌≡◌, ◌∷◌, [], map, IfOk};
-ghost use Rattle.kif_tree.specs.declared.subst.Pair as pair;
+ghost use Rattle.kif_tree.specs.declared.form.Form.TheVariants as form;
+ghost use Rattle.kif_tree.specs.Terms.{variables, distinct};
 ghost use Rattle.calculus.specs.Answers.{answer_atom};
-ghost use Rattle.sigma_app.specs.Matching.{binding};
 ghost use Rattle.sigma_app.specs.Proof as spec;
 
 use crate::page::{ProofLine, Rule};
-use kif_tree::{Clause, Form, Literal, Located, Pair, Text};
+use calculus_programs::tidy;
+use kif_tree::{Clause, Form, Literal, Located, Pair, Text, variables_of};
 use sigma_base::{Listed, NoMemory};
 use std::alloc::Global;
 
@@ -46,7 +47,35 @@ fn query_line(alloc: Global, query: &Form) -> Result<ProofLine, NoMemory>
 fn query_clause(alloc: Global, query: &Form) -> Result<Clause, NoMemory>
     ensures { IfOk result (λ clause. clause ≡ spec.query_clause query.now) }
 {
-    Err(NoMemory)
+    tidy(alloc, &asked_clause(alloc, query)?)
+}
+
+fn asked_clause(alloc: Global, query: &Form) -> Result<Clause, NoMemory>
+    ensures { IfOk result (λ clause. clause ≡ spec.asked_clause query.now) }
+{
+    let mut literals = Listed::new(alloc);
+    literals.push(Literal {
+        positive: false,
+        atom: query.copy(alloc)?,
+    })?;
+    literals.push(Literal {
+        positive: true,
+        atom: asking_atom(alloc, query)?,
+    })?;
+    Ok(Clause { literals })
+}
+
+/// The list of the word `!answer` and the query's variables in order of first occurrence.
+fn asking_atom(alloc: Global, query: &Form) -> Result<Form, NoMemory>
+    ensures { IfOk result (λ atom. atom ≡ answer_atom (map form.Variable (distinct (variables query.now)))) }
+{
+    let names = variables_of(alloc, query)?;
+    let mut parts = Listed::new(alloc);
+    parts.push(Form::Word(Text::of(alloc, b"!answer")?))?;
+    for name in names.items() {
+        parts.push(Form::Variable(name.copy(alloc)?))?;
+    }
+    Ok(Form::List(parts))
 }
 
 /// The list of the word `!answer` and the forms that the pairs give.
