@@ -9,4 +9,4 @@ mod words;
 
 pub use error::FactsError;
 pub use facts::{read_facts, read_goal};
-pub use laws::one_reading_law;
+pub use laws::{one_reading_law, plain_atom_law};
