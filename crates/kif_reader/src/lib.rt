@@ -5,6 +5,8 @@ mod atoms;
 mod error;
 mod facts;
 mod laws;
+#[cfg(test)]
+mod tests;
 mod words;
 
 pub use error::FactsError;
