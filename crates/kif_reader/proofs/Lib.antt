@@ -1,2 +1,3 @@
+pub mod AtomLaws
 pub mod LineLaws
 pub mod PlainLaws

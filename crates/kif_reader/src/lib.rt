@@ -5,8 +5,10 @@ mod atoms;
 mod error;
 mod facts;
 mod laws;
+#[cfg(test)]
+mod tests;
 mod words;
 
 pub use error::FactsError;
 pub use facts::{read_facts, read_goal};
-pub use laws::one_reading_law;
+pub use laws::{one_reading_law, plain_atom_law};
