@@ -151,7 +151,7 @@ any_filter v x apart (y ∷ ys) h = go (bytes_eq x y) refl h (any_filter v x apa
         keep true b c h k = refl
         keep false b c h k = k h
 
-in_distinct : (v : Bytes) (xs : List Bytes) → list_any (bytes_eq v) xs ≡ true → list_any (bytes_eq v) (distinct xs) ≡ true
+pub in_distinct : (v : Bytes) (xs : List Bytes) → list_any (bytes_eq v) xs ≡ true → list_any (bytes_eq v) (distinct xs) ≡ true
 in_distinct v [] h = h
 in_distinct v (x ∷ xs) h = go (bytes_eq v x) refl h (in_distinct v xs)
   where
@@ -248,7 +248,7 @@ shift_same (x ∷ xs) (y ∷ ys) e =
     let here : x ≡ y = omega (arith, head) in
     ap₂ ◌∷◌ here (shift_same xs ys rest)
 
-new_name-same : (m n : ℕ) → new_name m ≡ new_name n → m ≡ n
+pub new_name-same : (m n : ℕ) → new_name m ≡ new_name n → m ≡ n
 new_name-same m n e =
     let digits : map (λ digit. 48 + digit) (digits_of 10 m) ≡ map (λ digit. 48 + digit) (digits_of 10 n) = cc in
     same_from_digits_of 10 m n (omega arith) (shift_same (digits_of 10 m) (digits_of 10 n) digits)
@@ -291,7 +291,7 @@ named n (name ∷ names) v h = go (bytes_eq name v) refl (flip name v) h (named 
           back = ap (λ (b : Bool). if b then form.Variable name else old_names (n + 1) names (new_name further.number)) (ahead further.number further.above) ∙ further.back;
         }
 
-bind-identity : (f : Form) → bind form.Variable f ≡ f
+pub bind-identity : (f : Form) → bind form.Variable f ≡ f
 bind-identity = induction (λ f. bind form.Variable f ≡ f) (record {
   word = λ text. bind-Word form.Variable text;
   variable = λ text. bind-Variable form.Variable text;

@@ -1,5 +1,6 @@
 pub mod MatchLaws
 pub mod PlainLaws
+pub mod ProofLaws
 pub mod RunLaws
 pub mod ToolLaws
 pub mod WordLaws

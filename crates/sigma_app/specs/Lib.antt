@@ -1,3 +1,4 @@
+pub mod Evidence
 pub mod Matching
 pub mod Page
 pub mod Proof
