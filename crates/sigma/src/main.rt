@@ -1,5 +1,6 @@
 //! The program: the tool over files of the disk and standard output.
 #![tactic(auto)]
+
 ghost use Rattle.std.specs.Prelude.{◌≡◌, ◌^◌, ◌<◌, ◌-◌, length};
 
 mod screen;

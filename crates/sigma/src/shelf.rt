@@ -4,9 +4,8 @@ ghost use Rattle.sig_io.specs.declared.files.Fetched.{Fetched};
 
 use sig_io::{FetchError, Fetched, Files, after_fault};
 use std::alloc::Global;
-use std::fs;
 use std::io::{self, ErrorKind, Read};
-use std::rt;
+use std::{fs, rt};
 
 /// Files by their paths. It tells nothing of what the disk holds.
 #[derive(Drop)]
@@ -58,7 +57,12 @@ impl<R: rt::Files> Files for FileShelf<'_, R> {
 
     ghost faults = { λ s. s.faults };
 
-    fn fetch(&mut self, name: &str, limit: usize, into: &mut Vec<u8>) -> Result<Fetched, FetchError> {
+    fn fetch(
+        &mut self,
+        name: &str,
+        limit: usize,
+        into: &mut Vec<u8>,
+    ) -> Result<Fetched, FetchError> {
         let body = match self.read_body(name, limit) {
             Ok(body) => body,
             Err(error) if is_absence(&error) => return Ok(Fetched::Absent),

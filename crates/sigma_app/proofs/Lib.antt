@@ -1,3 +1,4 @@
+pub mod EvidenceLaws
 pub mod MatchLaws
 pub mod PlainLaws
 pub mod ProofLaws

@@ -1,6 +1,6 @@
 -- Plain atoms are lists of words and variables.
-use Rattle.std.proofs.Common.{Bool, List, [], ◌∷◌, ◌⊎◌, inl, inr, refl}
-use Rattle.sigma_base.specs.Lists.{Each, each_map}
+use Rattle.std.proofs.Common.{Bool, ◌∷◌, inl, inr, refl}
+use Rattle.sigma_base.specs.Lists.{each_map}
 use Rattle.kif_tree.specs.declared.form.Form.{Form}
 use Rattle.kif_tree.specs.declared.form.Form.TheVariants as form
 use Rattle.kif_reader.specs.Plain.{IsPlainArgument, IsPlainAtom}

@@ -1,30 +1,26 @@
 -- Why the three lines of a page are a derivation, and what its evidence is.
-use Rattle.std.proofs.Common.{◌≡◌, ℕ, zero, suc, ◌+◌, ◌<◌, ◌≤◌, List, [], ◌∷◌, ◌++◌, map, take, length, filter, Bool, true, false, not, ◌&&◌, ◌||◌, if◌then◌else◌, Option, Some, None, ◌⊎◌, inl, inr, codes, refl, sym, ap, ap₂, ◌∙◌, subst, arith}
-use Rattle.std.specs.Prelude.{slice_get}
-use Rattle.std.specs.List.{list_any, list_all}
+use Rattle.std.proofs.Common.{◌≡◌, ℕ, ◌+◌, ◌≤◌, List, [], ◌∷◌, ◌++◌, map, Bool, true, false, not, ◌&&◌, ◌||◌, if◌then◌else◌, Option, Some, codes, refl, sym, ap, ap₂, ◌∙◌, subst, arith}
+use Rattle.std.specs.List.{list_any}
 use Rattle.std.specs.Str.{bytes_eq}
 use Rattle.std.proofs.lemmas.Slice.Eq.{bytes_eq-Decides}
-use Rattle.sigma_base.specs.Lists.{Each, each_append, each_left, each_right, each_map, each_filter, map_twice}
-use Rattle.kif_tree.specs.declared.form.Form.{Form, out-Form}
+use Rattle.sigma_base.specs.Lists.{Each, each_append, each_left, each_right, each_map, each_filter}
+use Rattle.kif_tree.specs.declared.form.Form.{Form}
 use Rattle.kif_tree.specs.declared.form.Form.TheVariants as form
-use Rattle.kif_tree.specs.declared.clause.Literal.{Literal}
-use Rattle.kif_tree.specs.declared.clause.InputClause.{InputClause}
-use Rattle.kif_tree.specs.declared.place.Located.{Located}
 use Rattle.kif_tree.specs.declared.subst.Pair.{Pair}
-use Rattle.kif_tree.specs.Terms.{Bytes, same, variables, distinct, joined, clean, is_ground, has_no_row}
+use Rattle.kif_tree.specs.Terms.{Bytes, same, variables, distinct, joined, clean}
 use Rattle.kif_tree.specs.SameLaws.{same-Decides}
 use Rattle.kif_tree.specs.FormLaws.{induction}
 use Rattle.kif_tree.specs.Subst.{Filling, bind, via, lookup, apply}
-use Rattle.kif_tree.specs.Clauses.{Literals, bind_clause, clause_variables, is_word, heads_layer, is_headed, is_answer}
+use Rattle.kif_tree.specs.Clauses.{Literals, clause_variables, is_word, heads_layer, is_headed, is_answer}
 use Rattle.kif_tree.proofs.TermLaws.{clean-Word, clean-Variable, clean-Row, clean-Numeral, clean-Quoted, clean-List, clean_all, variables-Word, variables-Variable, variables-Row, variables-Numeral, variables-Quoted, variables-List}
 use Rattle.kif_tree.proofs.SubstLaws.{bind-Word, bind-Variable, bind-Row, bind-Numeral, bind-Quoted, bind-List, bind-via, agree, Agree}
 use Rattle.kif_reader.specs.Plain.{IsPlainAtom}
-use Rattle.kif_reader.proofs.AtomLaws.{fact_ground, query_rowless, headed_plain, plain_no_answer}
+use Rattle.kif_reader.proofs.AtomLaws.{fact_ground, headed_plain, plain_no_answer}
 use Rattle.calculus.specs.declared.step.Step.{Step}
-use Rattle.calculus.specs.Tidy.{tidy, new_name, numbered, renaming, without_repeats}
+use Rattle.calculus.specs.Tidy.{tidy, new_name, numbered, renaming}
 use Rattle.calculus.specs.Equality.{yes, no}
 use Rattle.calculus.specs.Answers.{answer_atom}
-use Rattle.calculus.specs.Rules.{nth, after, given, resolves, resolved, untidy, concluded}
+use Rattle.calculus.specs.Rules.{after, given, resolves, resolved, concluded}
 use Rattle.calculus.proofs.TruthLaws.{both, false_true, members}
 use Rattle.calculus.proofs.RenamingLaws.{new_name-same, bind-identity, in_distinct}
 use Rattle.sigma_app.specs.Proof.{unit_clause, asked_clause, query_clause, values, answer_clause}
@@ -116,7 +112,7 @@ bound_no_answer g f plain =
     ∙ headed-list (codes "!answer") plain.head (map (bind g) plain.arguments)
     ∙ sym (headed_plain true (codes "!answer") f plain) ∙ plain_no_answer true f plain
 
-map-variables : (g : Filling) (names : List Bytes) → map (bind g) (map form.Variable names) ≡ map g names
+pub map-variables : (g : Filling) (names : List Bytes) → map (bind g) (map form.Variable names) ≡ map g names
 map-variables g [] = refl
 map-variables g (name ∷ names) = ap₂ ◌∷◌ (bind-Variable g name) (map-variables g names)
 

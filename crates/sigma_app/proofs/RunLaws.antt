@@ -1,23 +1,23 @@
 -- What the parts of a run of the tool say of the whole run.
-use Rattle.std.proofs.Common.{◌≡◌, ◌≢◌, ℕ, ◌+◌, ◌<◌, ◌≤◌, List, [], ◌∷◌, ◌++◌, length, Bool, true, false, if◌then◌else◌, nat_le, Option, Some, None, Result, Ok, Err, ◌⊎◌, inl, inr, refl, sym, ap, ◌∙◌, subst, arith, replicate}
-use Rattle.std.specs.Prelude.{MatchOption, MatchBool, IfSome, IfOk, find}
+use Rattle.std.proofs.Common.{◌≡◌, ℕ, ◌+◌, ◌<◌, ◌≤◌, List, [], ◌∷◌, length, Bool, true, false, if◌then◌else◌, nat_le, Option, Some, None, Result, Ok, Err, ◌⊎◌, inl, inr, refl, sym, ap, ◌∙◌, subst, arith, replicate}
+use Rattle.std.specs.Prelude.{MatchOption, MatchBool, IfSome, IfOk}
 use Rattle.std.specs.Option.{option_map}
-use Rattle.std.specs.Str.{bytes_eq}
-use Rattle.std.specs.Io.KnownBytes.{append_known}
 use Rattle.std.proofs.lemmas.Slice.Eq.{bytes_eq-Decides}
 use Rattle.std.proofs.lemmas.Bool.Decides.{nat_tests}
 use Rattle.std.proofs.lemmas.List.{length-replicate}
 use Rattle.kif_tree.specs.Terms.{Bytes}
 use Rattle.sig_io.specs.Causes.{Rose}
-use Rattle.sig_io.specs.Told.{body_of, WritesPrefix}
+use Rattle.sig_io.specs.Told.{body_of}
 use Rattle.kif_tree.specs.declared.form.Form.{Form}
 use Rattle.kif_tree.specs.declared.place.Located.{Located}
 use Rattle.sigma_base.specs.declared.memory.NoMemory.{NoMemory}
 use Rattle.kif_reader.specs.Plain.{ReadsFacts, SpellsGoal}
 use Rattle.sigma_app.specs.declared.tool.Reply.{Reply}
 use Rattle.sigma_app.specs.Words.{Asked, asked}
-use Rattle.sigma_app.specs.Tool.{Is, usage, fault_text, not_built, Shows, Replies, Declines, OnBody, OnFile, Tool, GivesTool, IsFault, Agrees}
-use Rattle.sigma_app.specs.Run.{IsTrouble, IsCutShort, Appends, ReportsFault, IsMeant, AppendsPrefix, MayHaveRisen, Found, Failed, OnFetch, OnWords, PrintsAll, PrintsPart, Printed}
+use Rattle.sigma_app.specs.Tool.{Is, usage, not_built, Shows, OnBody, OnFile, GivesTool, IsFault, Agrees}
+use Rattle.sigma_app.specs.Evidence.{ShowsProof}
+use Rattle.sigma_app.proofs.EvidenceLaws.{shows_proof}
+use Rattle.sigma_app.specs.Run.{IsTrouble, IsCutShort, Appends, ReportsFault, AppendsPrefix, OnFetch, OnWords, Printed}
 
 -- ---- the statuses of the tool itself
 
@@ -183,6 +183,15 @@ module _ (words : List Bytes) (told : Option (List (Bytes × Bytes))) (before no
   answered (inr reply) (inl all) = inl (inl (all.is ∙ reply.four))
   answered (inl reply) (inr part) = inl (inr (trouble part.cause))
   answered (inr reply) (inr part) = inl (inr (trouble part.cause))
+
+  pub proved : Obtained words told before now status text → Printed status text old new sink_before sink_now result → result ≡ 0 → ShowsProof words told old new
+  proved (inl reply) (inl all) zero_is = shows_proof words told old new status text (sym all.is ∙ zero_is) all.appended reply.gives
+  proved (inr reply) (inl all) zero_is = absurd (let four = reply.four in let is = all.is in omega arith)
+  proved reply (inr part) zero_is = absurd (no_zero part.cause)
+    where
+      no_zero : ((result ≡ 8) × Rose sink_before sink_now) ⊎ ((result ≡ 9) × (sink_now ≡ sink_before)) → ⊥
+      no_zero (inl (eight, rose)) = omega arith
+      no_zero (inr (nine, quiet)) = omega arith
 
   cut_own : IsOwn status → result ≡ status → IsCutShort result → ⊥
   cut_own is_own e (inl eight) = is_own.no_write (sym e ∙ eight)

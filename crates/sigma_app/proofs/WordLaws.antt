@@ -1,8 +1,8 @@
 -- Three words, and other counts.
-use Rattle.std.proofs.Common.{◌≡◌, ◌≢◌, ℕ, ◌<◌, List, [], ◌∷◌, length, Bool, true, false, if◌then◌else◌, Option, Some, None, refl, sym, ap, ◌∙◌, arith}
+use Rattle.std.proofs.Common.{◌≡◌, ◌≢◌, List, [], ◌∷◌, length, if◌then◌else◌, Some, None, refl, arith}
 use Rattle.std.specs.Prelude.{slice_get}
 use Rattle.kif_tree.specs.Terms.{Bytes}
-use Rattle.sigma_app.specs.Words.{Asked, is_ask, asked}
+use Rattle.sigma_app.specs.Words.{is_ask, asked}
 
 pub asked-other : (words : List Bytes) → length words ≢ 3 → asked words ≡ None
 asked-other [] h = refl

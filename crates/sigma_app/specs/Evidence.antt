@@ -99,7 +99,7 @@ pub record IsProof (body : Bytes) (facts : List Located) (query : Form) (terms :
   pub cited : (line : ProofLine) (place : Place) → Among line lines → line.place ≡ Some place → Holds (one_part body) place 1 line.clause
   pub proves : (g : Filling) → Closes g
       → IsEvidenceFor (map (λ fact. unit_clause fact.form) facts) (query_clause query ∷ []) (map (bind g) terms ∷ [])
-        (evidence (clauses_of (search_inputs facts query)) steps clauses last g)
+      (evidence (clauses_of (search_inputs facts query)) steps clauses last g)
 
 -- the page of one answer, with its binding and the lines of its proof
 abbrev pub page_of : Bytes → List Pair → List ProofLine → Bytes

@@ -1,10 +1,10 @@
 -- The proof that a fact answers a query: the fact, the negated query, and one resolution.
-use Rattle.std.specs.Prelude.{ℕ, ◌+◌, List, [], ◌∷◌, ◌++◌, map, length, Some, None}
+use Rattle.std.specs.Prelude.{List, [], ◌∷◌, map, Some, None}
 use Rattle.kif_tree.specs.declared.form.Form.{Form}
 use Rattle.kif_tree.specs.declared.form.Form.TheVariants as form
 use Rattle.kif_tree.specs.declared.place.Located.{Located}
 use Rattle.kif_tree.specs.declared.subst.Pair.{Pair}
-use Rattle.kif_tree.specs.Terms.{Bytes, variables, distinct}
+use Rattle.kif_tree.specs.Terms.{variables, distinct}
 use Rattle.kif_tree.specs.Subst.{lookup}
 use Rattle.kif_tree.specs.Clauses.{Literals}
 use Rattle.calculus.specs.Equality.{yes, no}

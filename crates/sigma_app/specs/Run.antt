@@ -1,5 +1,5 @@
 -- What a run of the tool leaves: the status, the bytes that were appended and the counts of faults.
-use Rattle.std.specs.Prelude.{◌≡◌, ℕ, List, Option, Some, None, IfSome, MatchOption, ◌⊎◌}
+use Rattle.std.specs.Prelude.{◌≡◌, ℕ, List, Option, IfSome, MatchOption, ◌⊎◌}
 use Rattle.std.specs.Io.KnownBytes.{append_known}
 use Rattle.kif_tree.specs.Terms.{Bytes}
 use Rattle.sig_io.specs.Causes.{Rose}

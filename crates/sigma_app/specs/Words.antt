@@ -1,5 +1,5 @@
 -- The words of a command line that ask.
-use Rattle.std.specs.Prelude.{ℕ, ◌==◌, nat_le, List, [], ◌∷◌, length, Bool, true, false, not, ◌&&◌, if◌then◌else◌, Option, Some, None, codes}
+use Rattle.std.specs.Prelude.{◌==◌, nat_le, List, [], ◌∷◌, length, Bool, false, not, ◌&&◌, if◌then◌else◌, Option, Some, None, codes}
 use Rattle.std.specs.Str.{bytes_eq}
 use Rattle.kif_tree.specs.Terms.{Bytes}
 use Rattle.sigma_app.specs.declared.words.Ask.{Ask}

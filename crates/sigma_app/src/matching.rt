@@ -49,12 +49,7 @@ fn match_part(
     }
 }
 
-fn bind(
-    alloc: Global,
-    pairs: &mut Listed<Pair>,
-    name: &Text,
-    fact: &Form,
-) -> Result<(), NoMemory>
+fn bind(alloc: Global, pairs: &mut Listed<Pair>, name: &Text, fact: &Form) -> Result<(), NoMemory>
     ensures { OnOk result (pairs.new ≡ pairs.old ++ record { variable = name.now; term = fact.now } ∷ []) }
 {
     pairs.push(Pair {

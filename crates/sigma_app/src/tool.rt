@@ -7,6 +7,7 @@ ghost use Rattle.sigma_app.specs.Matching.{IsFlat, IsFirstMatch};
 ghost use Rattle.sigma_app.specs.Words as spec_words;
 ghost use Rattle.sigma_app.specs.Tool as spec;
 ghost use Rattle.sigma_app.specs.Run as run;
+ghost use Rattle.sigma_app.specs.Evidence as proof;
 
 use crate::matching::{binding_of, first_match};
 use crate::page::{append_answer, append_end};
@@ -18,7 +19,8 @@ use sig_io::{FetchError, Fetched, Files, Sink, Words, WriteError, write_all};
 use sigma_base::{Listed, NoMemory};
 use std::alloc::Global;
 
-const USAGE: &[u8] = b"usage: sigma ask [--turns N] [--answers N] [--kept N] [--mode support|full] QUERY FILE...
+const USAGE: &[u8] =
+    b"usage: sigma ask [--turns N] [--answers N] [--kept N] [--mode support|full] QUERY FILE...
        sigma check FILE...
        sigma clauses FILE...
        sigma export FILE...
@@ -125,11 +127,7 @@ fn body_reply(alloc: Global, ask: Ask<'_>, body: &[u8]) -> Result<Reply, NoMemor
 }
 
 /// The reply to a query over the file that is named.
-fn file_reply<F: Files>(
-    alloc: Global,
-    ask: Ask<'_>,
-    files: &mut F,
-) -> Result<Reply, NoMemory>
+fn file_reply<F: Files>(alloc: Global, ask: Ask<'_>, files: &mut F) -> Result<Reply, NoMemory>
     ensures told { F.told files.new ≡ F.told files.old }
     ensures reply { IfOk result (λ reply. run.OnFetch (spec_words.asked_value ask.entry) (F.told files.old) (F.faults files.old) (F.faults files.new) reply.status reply.text) }
     ensures cause { OnErr result (run.MayHaveRisen (F.faults files.old) (F.faults files.new)) }
@@ -171,6 +169,9 @@ fn print_reply<S: Sink>(out: &mut S, reply: &Reply) -> u8
 pub fn run_tool<F: Files, S: Sink>(alloc: Global, words: &Words, files: &mut F, out: &mut S) -> u8
     // There are contents, those that the files tell where they tell, for which the status and the text are the tool's.
     ensures answered { run.IsTrouble result ⊎ run.Appends words.now (F.told files.old) (S.told out.old) (S.told out.new) result }
+
+    // What is shown has a proof: a derivation that ends in just what is shown, whose cited lines hold its premises, and whose evidence refutes.
+    ensures proved { result ≡ 0 → proof.ShowsProof words.now (F.told files.old) (S.told out.old) (S.told out.new) }
 
     // The words are refused exactly so.
     ensures usage { result ≡ 2 → spec_words.asked words.now ≡ None }

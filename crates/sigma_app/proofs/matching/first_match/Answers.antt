@@ -1,7 +1,5 @@
-use Rattle.std.proofs.Common.{◌≡◌, Some, arith, refl}
-use Rattle.std.specs.Prelude.{MatchOption, slice_get}
+use Rattle.std.proofs.Common.{arith, refl}
 use Rattle.std.proofs.lemmas.Option.{slice_get_read, slice_get_within}
-use Rattle.sigma_app.specs.Matching as spec
 use Rattle.sigma_app.proofs.MatchLaws.{tried_more}
 use Rattle.sigma_app.proofs.matching.first_match.Goals as goal
 

@@ -1,4 +1,3 @@
-use Rattle.std.proofs.Common.{sym, ◌∙◌}
 use Rattle.sigma_app.proofs.MatchLaws.{answered, unlisted}
 use Rattle.sigma_app.proofs.matching.match_query.Goals as goal
 

@@ -1,5 +1,4 @@
-use Rattle.std.proofs.Common.{◌≡◌, ◌∷◌, ◌++◌, [], take, map, codes}
-use Rattle.kif_tree.specs.declared.form.Form.TheVariants as form
+use Rattle.std.proofs.Common.{◌≡◌, ◌++◌, take, map}
 use Rattle.kif_tree.specs.declared.subst.Pair.{Pair}
 use Rattle.sigma_app.proofs.proof.answer_atom.Given as goal
 

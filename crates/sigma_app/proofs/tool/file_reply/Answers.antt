@@ -1,4 +1,4 @@
-use Rattle.std.proofs.Common.{List, ◌++◌, ap, ◌∙◌}
+use Rattle.std.proofs.Common.{◌++◌, ap, ◌∙◌}
 use Rattle.kif_tree.specs.Terms.{Bytes}
 use Rattle.sigma_app.specs.Words.{asked_value}
 use Rattle.sigma_app.proofs.RunLaws.{found_whole, found_too_long}

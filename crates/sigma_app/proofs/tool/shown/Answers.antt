@@ -1,4 +1,3 @@
-use Rattle.std.proofs.Common.{arith}
 use Rattle.std.proofs.lemmas.Option.{slice_get_within}
 use Rattle.sigma_app.specs.Matching.{IsFirstMatch}
 use Rattle.sigma_app.proofs.ToolLaws.{shown_found}
