@@ -18,3 +18,6 @@ pub use mem_sink::MemSink;
 pub use named::{NamedFile, have_own_names};
 pub use sink::{Sink, write_all};
 pub use words::Words;
+
+#[cfg(test)]
+mod tests;
