@@ -1,5 +1,5 @@
 //! Files in memory, which tell what they hold and fail at listed calls.
-ghost use Rattle.std.specs.Prelude.{◌≡◌, IfOk, All, Some};
+ghost use Rattle.std.specs.Prelude.{◌≡◌, IfOk, IsOkAnd, All, Some};
 ghost use Rattle.sig_io.specs.Named.{pairs_of, names_of, AreDistinct};
 ghost use Rattle.sig_io.specs.Told.{body_of};
 ghost use Rattle.sig_io.specs.Memory.{new_plan};
@@ -34,7 +34,7 @@ impl MemFiles {
     pub fn new(content: Vec<NamedFile>, failing: Vec<u64>) -> Result<MemFiles, NoMemory>
         requires { AreDistinct (names_of content.items) }
         ensures own { IfOk result (λ made. All (λ f. body_of made.files f.name ≡ Some f.body) content.items) }
-        ensures made { IfOk result (λ made. made ≡ record { files = pairs_of content.items; plan = new_plan failing.items }) }
+        ensures made { IsOkAnd result (λ made. made ≡ record { files = pairs_of content.items; plan = new_plan failing.items }) }
     {
         Ok(MemFiles {
             files: content,
