@@ -1,6 +1,6 @@
 -- Files as pairs of a name and its bytes.
 use Rattle.std.specs.Prelude.{◌≢◌, ℕ, List, map, AllPairs}
-use Rattle.sig_io.specs.declared.mem_files.NamedFile.{NamedFile}
+use Rattle.sig_io.specs.declared.named.NamedFile.{NamedFile}
 
 abbrev pub pairs_of : List NamedFile → List (List ℕ × List ℕ)
 pairs_of = map (λ f. (f.name, f.body))

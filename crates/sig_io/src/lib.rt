@@ -6,13 +6,18 @@ mod faults;
 mod files;
 mod mem_files;
 mod mem_sink;
+mod named;
 mod plan;
 mod sink;
 mod words;
 
 pub use faults::{Failed, FetchError, WriteError, after_fault};
 pub use files::{Fetched, Files};
-pub use mem_files::{MemFiles, NamedFile};
+pub use mem_files::MemFiles;
 pub use mem_sink::MemSink;
+pub use named::{NamedFile, have_own_names};
 pub use sink::{Sink, write_all};
 pub use words::Words;
+
+#[cfg(test)]
+mod tests;

@@ -1,40 +1,15 @@
 //! Files in memory, which tell what they hold and fail at listed calls.
-ghost use Rattle.std.specs.Prelude.{◌≡◌, IfOk, find};
-ghost use Rattle.std.specs.Option.{option_map};
-ghost use Rattle.std.specs.Str.{bytes_eq};
+ghost use Rattle.std.specs.Prelude.{◌≡◌, IfOk, IsOkAnd, All, Some};
 ghost use Rattle.sig_io.specs.Named.{pairs_of, names_of, AreDistinct};
 ghost use Rattle.sig_io.specs.Told.{body_of};
 ghost use Rattle.sig_io.specs.Memory.{new_plan};
 
 use crate::faults::FetchError;
 use crate::files::{Fetched, Files};
+use crate::named::{NamedFile, body};
 use crate::plan::FaultPlan;
-use kif_tree::Text;
 use sigma_base::NoMemory;
 use std::marker::Model;
-
-/// A file by its name.
-#[derive(Debug, Drop)]
-pub struct NamedFile {
-    pub name: Text,
-    pub body: Text,
-}
-
-fn named<'a>(files: &'a [NamedFile], name: &str) -> Option<&'a NamedFile>
-    ensures { option_map (λ f. f.now) result ≡ find (λ f. bytes_eq f.name name.now) files.now }
-{
-    files.iter().find(|f| f.name.bytes() == name.as_bytes())
-}
-
-#[tactic(auto, using(crate::proofs::NamedLaws::body_found))]
-fn body<'a>(files: &'a [NamedFile], name: &str) -> Option<&'a [u8]>
-    ensures { option_map (λ b. b.now) result ≡ body_of (pairs_of files.now) name.now }
-{
-    match named(files, name) {
-        Some(file) => Some(file.body.bytes()),
-        None => None,
-    }
-}
 
 /// Files in memory.
 #[derive(Debug, Drop)]
@@ -53,10 +28,13 @@ impl Model for MemFiles {
 }
 
 impl MemFiles {
-    /// The files of the list. Its fetches fail whose numbers, from 1, are listed in `failing`.
+    /// The files of the list, whose names differ (`have_own_names`). Its fetches fail whose numbers, from 1, are listed in
+    /// `failing`.
+    #[tactic(auto, using(crate::proofs::NamedLaws::own_body))]
     pub fn new(content: Vec<NamedFile>, failing: Vec<u64>) -> Result<MemFiles, NoMemory>
         requires { AreDistinct (names_of content.items) }
-        ensures made { IfOk result (λ made. made ≡ record { files = pairs_of content.items; plan = new_plan failing.items }) }
+        ensures own { IfOk result (λ made. All (λ f. body_of made.files f.name ≡ Some f.body) content.items) }
+        ensures made { IsOkAnd result (λ made. made ≡ record { files = pairs_of content.items; plan = new_plan failing.items }) }
     {
         Ok(MemFiles {
             files: content,
@@ -76,7 +54,7 @@ impl Files for MemFiles {
     ghost faults = { λ s. s.plan.faults };
 
     fn fetch(&mut self, name: &str, limit: usize, into: &mut Vec<u8>) -> Result<Fetched, FetchError>
-        ensures same { Some self.new.files ≡ Some self.old.files }
+        ensures same { self.new.files ≡ self.old.files }
         ensures fetched { Fetches (Some self.old.files) name.now limit into.old.items into.new.items result }
         ensures cause { FetchCause self.old.plan.faults self.new.plan.faults result }
 

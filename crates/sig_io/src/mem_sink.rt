@@ -1,5 +1,5 @@
 //! A sink in memory, which tells what it holds and fails at listed calls.
-ghost use Rattle.std.specs.Prelude.{◌≡◌, IfOk};
+ghost use Rattle.std.specs.Prelude.{◌≡◌, IsOkAnd};
 ghost use Rattle.sig_io.specs.Memory.{new_plan};
 
 use crate::faults::WriteError;
@@ -27,7 +27,7 @@ impl Model for MemSink {
 impl MemSink {
     /// A sink that holds the content. Its writes fail whose numbers, from 1, are listed in `failing`.
     pub fn new(content: Text, failing: Vec<u64>) -> Result<MemSink, NoMemory>
-        ensures { IfOk result (λ sink. sink ≡ record { content = content; plan = new_plan failing.items }) }
+        ensures { IsOkAnd result (λ sink. sink ≡ record { content = content; plan = new_plan failing.items }) }
     {
         Ok(MemSink {
             content,

@@ -1,5 +1,5 @@
 //! A sink takes bytes.
-ghost use Rattle.std.specs.Prelude.{◌<◌, ◌≤◌, List, ℕ, Option, length, IfOk};
+ghost use Rattle.std.specs.Prelude.{◌≡◌, ◌<◌, ◌≤◌, List, ℕ, Option, length, IfOk, IsOk};
 ghost use Rattle.sig_io.specs.Told.{WritesPart, WritesAll};
 ghost use Rattle.sig_io.specs.Causes.{WriteCause};
 
@@ -21,10 +21,12 @@ pub trait Sink {
         ensures cause { WriteCause (faults self.old) (faults self.new) result };
 }
 
-/// Writes the whole piece. It answers the first refusal that `write` gives; a front of the piece was taken then.
+/// Writes the whole piece. It answers the first refusal that `write` gives, and a prefix of the piece was taken then. An
+/// empty piece takes no write.
 pub fn write_all<S: Sink>(out: &mut S, piece: &[u8]) -> Result<(), WriteError>
     ensures told { WritesAll (S.told out.old) (S.told out.new) piece.now result }
     ensures cause { WriteCause (S.faults out.old) (S.faults out.new) result }
+    ensures nothing { length piece.now ≡ 0 → IsOk result }
 {
     let mut written = 0usize;
     while written < piece.len() {
