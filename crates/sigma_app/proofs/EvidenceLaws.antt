@@ -31,7 +31,7 @@ use Rattle.calculus.proofs.QueryLaws.{query_evidence}
 use Rattle.sigma_app.specs.declared.page.ProofLine.{ProofLine}
 use Rattle.sigma_app.specs.Words.{Asked, asked}
 use Rattle.sigma_app.specs.Proof.{unit_clause, asked_clause, query_clause, values, answer_clause, lines_of}
-use Rattle.sigma_app.specs.Tool.{Is, OnBody, OnFile, GivesTool, Agrees, IsRead, Shows, ShowsAnswer, not_built, usage}
+use Rattle.sigma_app.specs.Tool.{Is, OnBody, OnFile, GivesTool, Agrees, IsRead, Shows, ShowsAnswer, not_built, usage, Tool}
 use Rattle.sigma_app.specs.Evidence.{input_of_fact, input_of_query, search_inputs, clauses_of, line_of, ShowSteps, Part, Holds, one_part, IsProof, ShowsProof}
 use Rattle.sigma_app.proofs.ProofLaws.{renamed_values, ground_rowless, each_distinct, ground_values, ground_terms, clean-answer, answer-answers, bind-answer, query_clause-is, old_names, resolution, resolution-concludes, filled_ground, map-variables}
 
@@ -138,10 +138,12 @@ located_each constituent number (f ∷ forms) = (refl, located_each constituent 
 
 holds_at : (body : Bytes) (facts : List Located) (number : ℕ) (fact : Located) → ReadsFacts 1 body facts → nth facts number ≡ Some fact → Holds (one_part body) fact.place 1 (unit_clause fact.form)
 holds_at body facts number fact reads stands = record {
+  before = [];
   part = record { number = 1; text = body };
-  stands = inl refl;
+  following = [];
+  stands = refl;
   named = sym (each_nth (λ (l : Located). l.place.constituent ≡ 1) facts number fact (subst (Each (λ (l : Located). l.place.constituent ≡ 1)) (sym reads.placed) (located_each 1 1 (forms_of facts))) stands);
-  only = λ other among named. only_one other among;
+  only = tt;
   facts = facts;
   spelled = reads;
   fact = fact;
@@ -150,10 +152,6 @@ holds_at body facts number fact reads stands = record {
   translated = refl;
   first_variant = refl;
 }
-  where
-    only_one : (other : Part) → Among other (one_part body) → other ≡ record { number = 1; text = body }
-    only_one other (inl e) = e
-    only_one other (inr none) = absurd none
 
 cites : (body : Bytes) (facts : List Located) (query : Form) (number : ℕ) (fact : Located) (terms : List Form) → ReadsFacts 1 body facts → nth facts number ≡ Some fact
     → (line : ProofLine) (place : Place) → Among line (lines_of query fact terms) → line.place ≡ Some place → Holds (one_part body) place 1 line.clause
@@ -232,17 +230,15 @@ module _ (facts : List Located) (query : Form) (number : ℕ) (s : List Pair) (f
 forms_nth : (facts : List Located) (n : ℕ) (fact : Located) → nth facts n ≡ Some fact → nth (forms_of facts) n ≡ Some fact.form
 forms_nth facts n fact e = nth-map (λ (l : Located). l.form) facts n fact e
 
-module _ (words : List Bytes) (told : Option (List (Bytes × Bytes))) (old new : Option Bytes) (status : ℕ) (text : Bytes) (zero_is : status ≡ 0) (appended : new ≡ append_known old text) where
-  answer_shown : (asks : Asked) → asked words ≡ Some asks → (contents : List (Bytes × Bytes)) → Agrees told contents → (body : Bytes) → body_of contents asks.path ≡ Some body
-      → (facts : List Located) (query : Form) → IsRead asks body facts query → ShowsAnswer asks.path facts query status text → ShowsProof words told old new
-  answer_shown asks are contents agrees body held facts query read shown =
+module _ (words : List Bytes) (contents : List (Bytes × Bytes)) (status : ℕ) (text : Bytes) (zero_is : status ≡ 0) where
+  answer_shown : (asks : Asked) → asked words ≡ Some asks → (body : Bytes) → body_of contents asks.path ≡ Some body
+      → (facts : List Located) (query : Form) → IsRead asks body facts query → ShowsAnswer asks.path facts query status text → ShowsProof words contents text
+  answer_shown asks are body held facts query read shown =
       let stands : nth facts shown.number ≡ Some shown.first.fact = sym (nth-get facts shown.number) ∙ shown.first.stands in
       let plain_fact = each_nth (IsPlainAtom false) (forms_of facts) shown.number shown.first.fact.form read.facts_read.spelled.plain (forms_nth facts shown.number shown.first.fact stands) in
       record {
         asks = asks;
         are = are;
-        contents = contents;
-        agrees = agrees;
         body = body;
         held = held;
         facts = facts;
@@ -252,33 +248,31 @@ module _ (words : List Bytes) (told : Option (List (Bytes × Bytes))) (old new :
         subst = shown.subst;
         first = shown.first;
         lines = lines_of query shown.first.fact (values query shown.subst);
-        page = appended ∙ ap (append_known old) shown.page;
+        page = shown.page;
         proof = is_proof facts query shown.number shown.subst shown.first.fact stands read.query_read.plain plain_fact shown.first.fits body read.facts_read;
       }
 
-  replies_shown : (asks : Asked) → asked words ≡ Some asks → (contents : List (Bytes × Bytes)) → Agrees told contents → (body : Bytes) → body_of contents asks.path ≡ Some body
-      → OnBody asks body status text → ShowsProof words told old new
-  replies_shown asks are contents agrees body held (inl replies) = by_shown replies.shown
+  replies_shown : (asks : Asked) → asked words ≡ Some asks → (body : Bytes) → body_of contents asks.path ≡ Some body → OnBody asks body status text → ShowsProof words contents text
+  replies_shown asks are body held (inl replies) = by_shown replies.shown
     where
-      by_shown : Shows asks.path replies.facts replies.query status text → ShowsProof words told old new
-      by_shown (inl shown) = answer_shown asks are contents agrees body held replies.facts replies.query replies.read shown
+      by_shown : Shows asks.path replies.facts replies.query status text → ShowsProof words contents text
+      by_shown (inl shown) = answer_shown asks are body held replies.facts replies.query replies.read shown
       by_shown (inr none) = absurd (omega (arith, none.done))
-  replies_shown asks are contents agrees body held (inr declines) = absurd (omega (arith, declines.done))
+  replies_shown asks are body held (inr declines) = absurd (omega (arith, declines.done))
 
-  length_shown : (asks : Asked) → asked words ≡ Some asks → (contents : List (Bytes × Bytes)) → Agrees told contents → (body : Bytes) → body_of contents asks.path ≡ Some body
-      → (fits : Bool) → MatchBool fits (OnBody asks body status text) (Is 10 not_built status text) → ShowsProof words told old new
-  length_shown asks are contents agrees body held true on_body = replies_shown asks are contents agrees body held on_body
-  length_shown asks are contents agrees body held false too_long = absurd (omega (arith, too_long.done))
+  length_shown : (asks : Asked) → asked words ≡ Some asks → (body : Bytes) → body_of contents asks.path ≡ Some body
+      → (fits : Bool) → MatchBool fits (OnBody asks body status text) (Is 10 not_built status text) → ShowsProof words contents text
+  length_shown asks are body held true on_body = replies_shown asks are body held on_body
+  length_shown asks are body held false too_long = absurd (omega (arith, too_long.done))
 
-  file_shown : (asks : Asked) → asked words ≡ Some asks → (contents : List (Bytes × Bytes)) → Agrees told contents → (found : Option Bytes) → body_of contents asks.path ≡ found
-      → OnFile asks found status text → ShowsProof words told old new
-  file_shown asks are contents agrees None held is = absurd (omega (arith, is.done))
-  file_shown asks are contents agrees (Some body) held is = length_shown asks are contents agrees body held (nat_le (length body) 8388608) is
+  file_shown : (asks : Asked) → asked words ≡ Some asks → (found : Option Bytes) → body_of contents asks.path ≡ found → OnFile asks found status text → ShowsProof words contents text
+  file_shown asks are None held is = absurd (omega (arith, is.done))
+  file_shown asks are (Some body) held is = length_shown asks are body held (nat_le (length body) 8388608) is
 
-  words_shown : (contents : List (Bytes × Bytes)) → Agrees told contents → (o : Option Asked) → asked words ≡ o
-      → MatchOption o (Is 2 usage status text) (λ asks. OnFile asks (body_of contents asks.path) status text) → ShowsProof words told old new
-  words_shown contents agrees None are is = absurd (omega (arith, is.done))
-  words_shown contents agrees (Some asks) are is = file_shown asks are contents agrees (body_of contents asks.path) refl is
+  words_shown : (o : Option Asked) → asked words ≡ o → MatchOption o (Is 2 usage status text) (λ asks. OnFile asks (body_of contents asks.path) status text) → ShowsProof words contents text
+  words_shown None are is = absurd (omega (arith, is.done))
+  words_shown (Some asks) are is = file_shown asks are (body_of contents asks.path) refl is
 
-  pub shows_proof : GivesTool words told status text → ShowsProof words told old new
-  shows_proof gives = words_shown gives.contents gives.agrees (asked words) refl gives.tool
+  -- what the tool shows has a proof
+  pub shows_proof : Tool words contents status text → ShowsProof words contents text
+  shows_proof tool = words_shown (asked words) refl tool

@@ -14,10 +14,9 @@ use Rattle.sigma_base.specs.declared.memory.NoMemory.{NoMemory}
 use Rattle.kif_reader.specs.Plain.{ReadsFacts, SpellsGoal}
 use Rattle.sigma_app.specs.declared.tool.Reply.{Reply}
 use Rattle.sigma_app.specs.Words.{Asked, asked}
-use Rattle.sigma_app.specs.Tool.{Is, usage, not_built, Shows, OnBody, OnFile, GivesTool, IsFault, Agrees}
-use Rattle.sigma_app.specs.Evidence.{ShowsProof}
+use Rattle.sigma_app.specs.Tool.{Is, usage, not_built, Shows, OnBody, OnFile, GivesTool, IsFault, Agrees, Tool}
 use Rattle.sigma_app.proofs.EvidenceLaws.{shows_proof}
-use Rattle.sigma_app.specs.Run.{IsTrouble, IsCutShort, Appends, ReportsFault, AppendsPrefix, OnFetch, OnWords, Printed}
+use Rattle.sigma_app.specs.Run.{IsTrouble, IsCutShort, Appends, ReportsFault, AppendsPrefix, OnFetch, OnWords, Printed, MayHaveRisen, MayHaveRisenFor}
 
 -- ---- the statuses of the tool itself
 
@@ -177,21 +176,19 @@ module _ (words : List Bytes) (told : Option (List (Bytes × Bytes))) (before no
   trouble (inl (eight, rose)) = inl eight
   trouble (inr (nine, quiet)) = inr nine
 
+  abbrev given_at : (gives : GivesTool words told status text) → status ≡ result → GivesTool words told result text
+  given_at gives e = record { contents = gives.contents; agrees = gives.agrees; tool = subst (λ (s : ℕ). Tool words gives.contents s text) e gives.tool }
+
   pub answered : Obtained words told before now status text → Printed status text old new sink_before sink_now result → IsTrouble result ⊎ Appends words told old new result
-  answered (inl reply) (inl all) =
-      inr (record { text = text; gives = subst (λ (s : ℕ). GivesTool words told s text) (sym all.is) reply.gives; appended = all.appended })
+  answered (inl reply) (inl all) = inr (record {
+    text = text;
+    gives = given_at reply.gives (sym all.is);
+    proved = λ zero_is. shows_proof words reply.gives.contents result text zero_is (subst (λ (s : ℕ). Tool words reply.gives.contents s text) (sym all.is) reply.gives.tool);
+    appended = all.appended;
+  })
   answered (inr reply) (inl all) = inl (inl (all.is ∙ reply.four))
   answered (inl reply) (inr part) = inl (inr (trouble part.cause))
   answered (inr reply) (inr part) = inl (inr (trouble part.cause))
-
-  pub proved : Obtained words told before now status text → Printed status text old new sink_before sink_now result → result ≡ 0 → ShowsProof words told old new
-  proved (inl reply) (inl all) zero_is = shows_proof words told old new status text (sym all.is ∙ zero_is) all.appended reply.gives
-  proved (inr reply) (inl all) zero_is = absurd (let four = reply.four in let is = all.is in omega arith)
-  proved reply (inr part) zero_is = absurd (no_zero part.cause)
-    where
-      no_zero : ((result ≡ 8) × Rose sink_before sink_now) ⊎ ((result ≡ 9) × (sink_now ≡ sink_before)) → ⊥
-      no_zero (inl (eight, rose)) = omega arith
-      no_zero (inr (nine, quiet)) = omega arith
 
   cut_own : IsOwn status → result ≡ status → IsCutShort result → ⊥
   cut_own is_own e (inl eight) = is_own.no_write (sym e ∙ eight)
@@ -201,11 +198,11 @@ module _ (words : List Bytes) (told : Option (List (Bytes × Bytes))) (before no
   cut_four four e (inl eight) = omega arith
   cut_four four e (inr nine) = omega arith
 
-  pub prefix : Obtained words told before now status text → Printed status text old new sink_before sink_now result → IsCutShort result → AppendsPrefix words told old new
+  pub prefix : Obtained words told before now status text → Printed status text old new sink_before sink_now result → IsCutShort result → AppendsPrefix words told before now old new
   prefix (inl reply) (inl all) cut = absurd (cut_own reply.is_own all.is cut)
   prefix (inr reply) (inl all) cut = absurd (cut_four reply.four all.is cut)
-  prefix (inl reply) (inr part) cut = inr (text, record { status = status; either = inl reply.gives }, part.prefix)
-  prefix (inr reply) (inr part) cut = inr (text, record { status = status; either = inr (reply.four, reply.fault) }, part.prefix)
+  prefix (inl reply) (inr part) cut = inr (text, record { status = status; either = inl (record { gives = reply.gives; proved = λ zero_is. shows_proof words reply.gives.contents status text zero_is reply.gives.tool }, reply.quiet) }, part.prefix)
+  prefix (inr reply) (inr part) cut = inr (text, record { status = status; either = inr ((reply.four, reply.fault), reply.rose) }, part.prefix)
 
   pub usage_only : Obtained words told before now status text → Printed status text old new sink_before sink_now result → result ≡ 2 → asked words ≡ None
   usage_only (inl reply) (inl all) two = reply.refuses (sym all.is ∙ two)
@@ -220,6 +217,10 @@ module _ (words : List Bytes) (told : Option (List (Bytes × Bytes))) (before no
   refused (inl reply) (inl all) none = inl (all.is ∙ reply.refused none)
   refused (inr reply) (inl all) none = absurd (let no_way : Some reply.fault.asks ≡ None = sym reply.fault.are ∙ none in cc)
   refused reply (inr part) none = inr (trouble part.cause)
+
+  pub unread : Obtained words told before now status text → Printed status text old new sink_before sink_now result → asked words ≡ None → now ≡ before
+  unread (inl reply) printed none = reply.quiet
+  unread (inr reply) printed none = absurd (let no_way : Some reply.fault.asks ≡ None = sym reply.fault.are ∙ none in cc)
 
   pub file_fault : Obtained words told before now status text → Printed status text old new sink_before sink_now result → result ≡ 4 → ReportsFault words before now old new
   file_fault (inl reply) (inl all) four = absurd (reply.is_own.no_fault (sym all.is ∙ four))
@@ -251,3 +252,15 @@ module _ (words : List Bytes) (told : Option (List (Bytes × Bytes))) (before no
       by_cause : ((result ≡ 8) × Rose sink_before sink_now) ⊎ ((result ≡ 9) × (sink_now ≡ sink_before)) → sink_now ≡ sink_before
       by_cause (inl (eight, rose)) = absurd (no_eight eight)
       by_cause (inr (nine, quiet)) = quiet
+
+-- ---- where memory was refused before anything was printed
+
+risen_by : (words : List Bytes) (before now : ℕ) (o : Option Asked) → asked words ≡ o → MatchOption o (now ≡ before) (λ asks. MayHaveRisen before now) → MayHaveRisen before now
+risen_by words before now None e quiet = inl quiet
+risen_by words before now (Some asks) e risen = risen
+
+pub risen : (words : List Bytes) (before now : ℕ) → MayHaveRisenFor words before now → MayHaveRisen before now
+risen words before now h = risen_by words before now (asked words) refl h
+
+pub not_risen : (words : List Bytes) (before now : ℕ) → MayHaveRisenFor words before now → asked words ≡ None → now ≡ before
+not_risen words before now h none = subst (λ (o : Option Asked). MatchOption o (now ≡ before) (λ asks. MayHaveRisen before now)) none h

@@ -1,6 +1,6 @@
 -- What a page rests on: its lines as the steps of a derivation, the places that they cite, and their ground evidence.
-use Rattle.std.specs.Prelude.{◌≡◌, ℕ, suc, ◌+◌, List, [], ◌∷◌, ◌++◌, map, length, Option, Some, None, codes}
-use Rattle.std.specs.Io.KnownBytes.{append_known}
+use Rattle.std.specs.Prelude.{◌≡◌, ◌≢◌, ℕ, suc, ◌+◌, List, [], ◌∷◌, ◌++◌, map, length, Option, Some, None, codes}
+use Rattle.sigma_base.specs.Lists.{Each}
 use Rattle.kif_tree.specs.declared.form.Form.{Form}
 use Rattle.kif_tree.specs.declared.clause.InputClause.{InputClause}
 use Rattle.kif_tree.specs.declared.place.Place.{Place}
@@ -23,7 +23,7 @@ use Rattle.sigma_app.specs.Words.{Asked, asked}
 use Rattle.sigma_app.specs.Matching.{IsFirstMatch, binding}
 use Rattle.sigma_app.specs.Page.{answer_text, end_text}
 use Rattle.sigma_app.specs.Proof.{unit_clause, query_clause, values, answer_clause}
-use Rattle.sigma_app.specs.Tool.{Agrees, IsRead, load_names}
+use Rattle.sigma_app.specs.Tool.{IsRead, load_names}
 
 -- ---- what a search begins with
 
@@ -69,10 +69,12 @@ pub record Part : Type 0 where
 -- The one part with the number that the place names has a text that spells, as the form of the number that the place names,
 -- a form that begins in its line and column, and the clause is of that variant of the form.
 pub record Holds (parts : List Part) (place : Place) (variant : ℕ) (clause : Literals) : Type 0 where
+  pub before : List Part
   pub part : Part
-  pub stands : Among part parts
+  pub following : List Part
+  pub stands : parts ≡ before ++ part ∷ following
   pub named : part.number ≡ place.constituent
-  pub only : (other : Part) → Among other parts → other.number ≡ place.constituent → other ≡ part
+  pub only : Each (λ other. other.number ≢ place.constituent) (before ++ following)
   pub facts : List Located
   pub spelled : ReadsFacts part.number part.text facts
   pub fact : Located
@@ -105,12 +107,10 @@ pub record IsProof (body : Bytes) (facts : List Located) (query : Form) (terms :
 abbrev pub page_of : Bytes → List Pair → List ProofLine → Bytes
 page_of path values lines = answer_text (load_names path) 1 values lines ++ end_text (codes "enough") 1
 
--- The page that was appended shows the first fact that the query is, and its lines are a proof of just what it shows.
-pub record ShowsProof (words : List Bytes) (told : Option (List (Bytes × Bytes))) (old new : Option Bytes) : Type 0 where
+-- The text is the page of the first fact that the query is, and its lines are a proof of just what it shows.
+pub record ShowsProof (words : List Bytes) (contents : List (Bytes × Bytes)) (text : Bytes) : Type 0 where
   pub asks : Asked
   pub are : asked words ≡ Some asks
-  pub contents : List (Bytes × Bytes)
-  pub agrees : Agrees told contents
   pub body : Bytes
   pub held : body_of contents asks.path ≡ Some body
   pub facts : List Located
@@ -120,5 +120,5 @@ pub record ShowsProof (words : List Bytes) (told : Option (List (Bytes × Bytes)
   pub subst : List Pair
   pub first : IsFirstMatch query facts number subst
   pub lines : List ProofLine
-  pub page : new ≡ append_known old (page_of asks.path (binding query subst) lines)
+  pub page : text ≡ page_of asks.path (binding query subst) lines
   pub proof : IsProof body facts query (values query subst) lines

@@ -22,13 +22,14 @@ rule_word Paramodulate = codes "paramodulate"
 abbrev pub parent_text : ℕ → Bytes
 parent_text parent = 32 ∷ decimal (parent + 1)
 
--- the place that is cited, or the rule with its parents
-abbrev pub source_of : List LoadName → Option Place → Rule → List ℕ → Bytes
-source_of names (Some place) rule parents = place_text names place
-source_of names None rule parents = rule_word rule ++ flat_map parent_text parents
+-- an axiom cites its place, and any other line shows its rule with its parents
+abbrev pub source_of : List LoadName → Rule → Option Place → List ℕ → Bytes
+source_of names Axiom (Some place) parents = place_text names place
+source_of names Axiom None parents = []
+source_of names rule _ parents = rule_word rule ++ flat_map parent_text parents
 
 abbrev pub source_text : List LoadName → ProofLine → Bytes
-source_text names line = source_of names line.place line.rule line.parents
+source_text names line = source_of names line.rule line.place line.parents
 
 abbrev pub line_text : List LoadName → ℕ → ProofLine → Bytes
 line_text names number line =

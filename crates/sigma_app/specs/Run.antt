@@ -5,6 +5,7 @@ use Rattle.kif_tree.specs.Terms.{Bytes}
 use Rattle.sig_io.specs.Causes.{Rose}
 use Rattle.sig_io.specs.Told.{body_of, WritesPrefix}
 use Rattle.sigma_app.specs.Words.{Asked, asked}
+use Rattle.sigma_app.specs.Evidence.{ShowsProof}
 use Rattle.sigma_app.specs.Tool.{Is, usage, fault_text, OnFile, GivesTool, IsFault}
 
 -- a status that tells of the outside or of memory: a fault of the files, a failed write, want of memory
@@ -15,10 +16,12 @@ IsTrouble status = (status ≡ 4) ⊎ ((status ≡ 8) ⊎ (status ≡ 9))
 abbrev pub IsCutShort : ℕ → Type 0
 IsCutShort status = (status ≡ 8) ⊎ (status ≡ 9)
 
--- the status and the text are the tool's, and the whole text was appended
+-- The status and the text are the tool's for contents that agree with those told, and where an answer is shown, so is a proof over these
+-- contents. The whole text was appended.
 pub record Appends (words : List Bytes) (told : Option (List (Bytes × Bytes))) (old new : Option Bytes) (status : ℕ) : Type 0 where
   pub text : Bytes
   pub gives : GivesTool words told status text
+  pub proved : status ≡ 0 → ShowsProof words gives.contents text
   pub appended : new ≡ append_known old text
 
 -- the count of the files rose, and the text that names the file was appended
@@ -28,19 +31,28 @@ pub record ReportsFault (words : List Bytes) (before now : ℕ) (old new : Optio
   pub fault : IsFault words text
   pub appended : new ≡ append_known old text
 
--- a text that the tool gives under another status: its own, or that of a file that could not be fetched
-pub record IsMeant (words : List Bytes) (told : Option (List (Bytes × Bytes))) (text : Bytes) : Type 0 where
+-- a text of the tool's own, with the proof of what it shows
+pub record IsOwnText (words : List Bytes) (told : Option (List (Bytes × Bytes))) (status : ℕ) (text : Bytes) : Type 0 where
+  pub gives : GivesTool words told status text
+  pub proved : status ≡ 0 → ShowsProof words gives.contents text
+
+-- a text of another status: the tool's own where the count of the files stayed, that of a fault where it rose
+pub record IsMeant (words : List Bytes) (told : Option (List (Bytes × Bytes))) (before now : ℕ) (text : Bytes) : Type 0 where
   pub status : ℕ
-  pub either : GivesTool words told status text ⊎ ((status ≡ 4) × IsFault words text)
+  pub either : (IsOwnText words told status text × (now ≡ before)) ⊎ (((status ≡ 4) × IsFault words text) × Rose before now)
 
 -- nothing was appended, or a prefix of a text of another status
-abbrev pub AppendsPrefix : List Bytes → Option (List (Bytes × Bytes)) → Option Bytes → Option Bytes → Type 0
-AppendsPrefix words told old new = (new ≡ old) ⊎ ((text : Bytes) × IsMeant words told text × WritesPrefix old new text)
+abbrev pub AppendsPrefix : List Bytes → Option (List (Bytes × Bytes)) → ℕ → ℕ → Option Bytes → Option Bytes → Type 0
+AppendsPrefix words told before now old new = (new ≡ old) ⊎ ((text : Bytes) × IsMeant words told before now text × WritesPrefix old new text)
 
 -- ---- the parts of a run
 
 abbrev pub MayHaveRisen : ℕ → ℕ → Type 0
 MayHaveRisen before now = (now ≡ before) ⊎ Rose before now
+
+-- refused words fetch nothing
+abbrev pub MayHaveRisenFor : List Bytes → ℕ → ℕ → Type 0
+MayHaveRisenFor words before now = MatchOption (asked words) (now ≡ before) (λ asks. MayHaveRisen before now)
 
 -- the file was found as one that agrees with what is told
 pub record Found (asks : Asked) (told : Option (List (Bytes × Bytes))) (before now status : ℕ) (text : Bytes) : Type 0 where

@@ -8,3 +8,6 @@ mod tool;
 mod words;
 
 pub use tool::run_tool;
+
+#[cfg(test)]
+mod tests;

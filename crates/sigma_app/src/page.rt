@@ -52,11 +52,14 @@ fn append_parents(out: &mut Text, parents: &[u32]) -> Result<(), NoMemory>
 fn append_source(out: &mut Text, names: &[LoadName], line: &ProofLine) -> Result<(), NoMemory>
     ensures { OnOk result (out.new ≡ out.old ++ spec.source_text names.now line.now) }
 {
-    if let Some(place) = &line.place {
-        return append_place(out, names, place);
+    match (line.rule, &line.place) {
+        (Rule::Axiom, Some(place)) => append_place(out, names, place),
+        (Rule::Axiom, None) => Ok(()),
+        (rule, _) => {
+            out.append(rule_word(rule))?;
+            append_parents(out, line.parents.items())
+        }
     }
-    out.append(rule_word(line.rule))?;
-    append_parents(out, line.parents.items())
 }
 
 fn append_line(

@@ -7,7 +7,6 @@ ghost use Rattle.sigma_app.specs.Matching.{IsFlat, IsFirstMatch};
 ghost use Rattle.sigma_app.specs.Words as spec_words;
 ghost use Rattle.sigma_app.specs.Tool as spec;
 ghost use Rattle.sigma_app.specs.Run as run;
-ghost use Rattle.sigma_app.specs.Evidence as proof;
 
 use crate::matching::{binding_of, first_match};
 use crate::page::{append_answer, append_end};
@@ -145,7 +144,7 @@ fn file_reply<F: Files>(alloc: Global, ask: Ask<'_>, files: &mut F) -> Result<Re
 fn reply_to<F: Files>(alloc: Global, words: &Words, files: &mut F) -> Result<Reply, NoMemory>
     ensures told { F.told files.new ≡ F.told files.old }
     ensures reply { IfOk result (λ reply. run.OnWords words.now (F.told files.old) (F.faults files.old) (F.faults files.new) reply.status reply.text) }
-    ensures cause { OnErr result (run.MayHaveRisen (F.faults files.old) (F.faults files.new)) }
+    ensures cause { OnErr result (run.MayHaveRisenFor words.now (F.faults files.old) (F.faults files.new)) }
 {
     match asked_of(words) {
         Some(ask) => file_reply(alloc, ask, files),
@@ -167,15 +166,14 @@ fn print_reply<S: Sink>(out: &mut S, reply: &Reply) -> u8
 /// 1 none is, 2 the words are refused, 3 the file is absent, 4 it could not be fetched, 8 a write failed, 9 want of memory,
 /// 10 the file is too long, or its text or the query isn't plain.
 pub fn run_tool<F: Files, S: Sink>(alloc: Global, words: &Words, files: &mut F, out: &mut S) -> u8
-    // There are contents, those that the files tell where they tell, for which the status and the text are the tool's.
+    // There are contents, those that the files tell where they tell, for which the status and the text are the tool's. An answer that
+    // is shown has a proof: a derivation that ends in just what is shown, whose cited lines hold its premises and whose evidence refutes.
     ensures answered { run.IsTrouble result ⊎ run.Appends words.now (F.told files.old) (S.told out.old) (S.told out.new) result }
-
-    // What is shown has a proof: a derivation that ends in just what is shown, whose cited lines hold its premises, and whose evidence refutes.
-    ensures proved { result ≡ 0 → proof.ShowsProof words.now (F.told files.old) (S.told out.old) (S.told out.new) }
 
     // The words are refused exactly so.
     ensures usage { result ≡ 2 → spec_words.asked words.now ≡ None }
     ensures refused { spec_words.asked words.now ≡ None → (result ≡ 2) ⊎ run.IsCutShort result }
+    ensures unread { spec_words.asked words.now ≡ None → F.faults files.new ≡ F.faults files.old }
 
     // What the counts of faults tell.
     ensures file_fault { result ≡ 4 → run.ReportsFault words.now (F.faults files.old) (F.faults files.new) (S.told out.old) (S.told out.new) }
@@ -184,7 +182,7 @@ pub fn run_tool<F: Files, S: Sink>(alloc: Global, words: &Words, files: &mut F, 
     ensures write_cause { result ≢ 8 → S.faults out.new ≡ S.faults out.old }
 
     // Cut short, the text is a prefix of that of another status.
-    ensures prefix { run.IsCutShort result → run.AppendsPrefix words.now (F.told files.old) (S.told out.old) (S.told out.new) }
+    ensures prefix { run.IsCutShort result → run.AppendsPrefix words.now (F.told files.old) (F.faults files.old) (F.faults files.new) (S.told out.old) (S.told out.new) }
     ensures told { F.told files.new ≡ F.told files.old }
 {
     match reply_to(alloc, words, files) {

@@ -8,13 +8,6 @@ returns-in-Ok-clause-answered g c =
     (run.obtained c.args.words.now (g.F.Files.told c.args.files.now) (g.F.Files.faults c.args.files.now) (g.F.Files.faults c.reply_to.new.files) c.in-Ok.reply.status c.in-Ok.reply.text c.in-Ok.ensures.reply)
     c.print_reply.ensures
 
-pub returns-in-Ok-clause-proved : goal.returns-in-Ok-clause-proved
-returns-in-Ok-clause-proved g c =
-    run.proved c.args.words.now (g.F.Files.told c.args.files.now) (g.F.Files.faults c.args.files.now) (g.F.Files.faults c.reply_to.new.files) c.in-Ok.reply.status c.in-Ok.reply.text
-    (g.S.Sink.told c.args.out.now) (g.S.Sink.told c.print_reply.new.out) (g.S.Sink.faults c.args.out.now) (g.S.Sink.faults c.print_reply.new.out) c.print_reply.result
-    (run.obtained c.args.words.now (g.F.Files.told c.args.files.now) (g.F.Files.faults c.args.files.now) (g.F.Files.faults c.reply_to.new.files) c.in-Ok.reply.status c.in-Ok.reply.text c.in-Ok.ensures.reply)
-    c.print_reply.ensures
-
 pub returns-in-Ok-clause-usage : goal.returns-in-Ok-clause-usage
 returns-in-Ok-clause-usage g c =
     run.usage_only c.args.words.now (g.F.Files.told c.args.files.now) (g.F.Files.faults c.args.files.now) (g.F.Files.faults c.reply_to.new.files) c.in-Ok.reply.status c.in-Ok.reply.text
@@ -25,6 +18,13 @@ returns-in-Ok-clause-usage g c =
 pub returns-in-Ok-clause-refused : goal.returns-in-Ok-clause-refused
 returns-in-Ok-clause-refused g c =
     run.refused c.args.words.now (g.F.Files.told c.args.files.now) (g.F.Files.faults c.args.files.now) (g.F.Files.faults c.reply_to.new.files) c.in-Ok.reply.status c.in-Ok.reply.text
+    (g.S.Sink.told c.args.out.now) (g.S.Sink.told c.print_reply.new.out) (g.S.Sink.faults c.args.out.now) (g.S.Sink.faults c.print_reply.new.out) c.print_reply.result
+    (run.obtained c.args.words.now (g.F.Files.told c.args.files.now) (g.F.Files.faults c.args.files.now) (g.F.Files.faults c.reply_to.new.files) c.in-Ok.reply.status c.in-Ok.reply.text c.in-Ok.ensures.reply)
+    c.print_reply.ensures
+
+pub returns-in-Ok-clause-unread : goal.returns-in-Ok-clause-unread
+returns-in-Ok-clause-unread g c =
+    run.unread c.args.words.now (g.F.Files.told c.args.files.now) (g.F.Files.faults c.args.files.now) (g.F.Files.faults c.reply_to.new.files) c.in-Ok.reply.status c.in-Ok.reply.text
     (g.S.Sink.told c.args.out.now) (g.S.Sink.told c.print_reply.new.out) (g.S.Sink.faults c.args.out.now) (g.S.Sink.faults c.print_reply.new.out) c.print_reply.result
     (run.obtained c.args.words.now (g.F.Files.told c.args.files.now) (g.F.Files.faults c.args.files.now) (g.F.Files.faults c.reply_to.new.files) c.in-Ok.reply.status c.in-Ok.reply.text c.in-Ok.ensures.reply)
     c.print_reply.ensures
