@@ -21,7 +21,7 @@ pub trait Files {
     /// The files, each a name and its bytes, where it tells them.
     ghost told: { Self → Option (List (List ℕ × List ℕ)) };
 
-    /// How many fetches failed.
+    /// How many fetches failed: a `u64` that never falls, and stays at its last value.
     ghost faults: { Self → ℕ };
 
     /// Appends the file of that name if it has at most `limit` bytes. Any other answer leaves `into` as before.

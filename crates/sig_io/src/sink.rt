@@ -10,10 +10,10 @@ pub trait Sink {
     /// The bytes that it holds, where it tells them.
     ghost told: { Self → Option (List ℕ) };
 
-    /// How many writes failed.
+    /// How many writes failed: a `u64` that never falls, and stays at its last value.
     ghost faults: { Self → ℕ };
 
-    /// Takes bytes from the front of the piece and answers how many.
+    /// Takes bytes from the front of the piece and answers how many. A refusal takes none.
     fn write(&mut self, piece: &[u8]) -> Result<usize, WriteError>
         ensures bound { IfOk result (λ n. n ≤ length piece.now) }
         ensures some { IfOk result (λ n. 0 < length piece.now → 0 < n) }
