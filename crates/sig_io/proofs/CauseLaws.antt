@@ -1,5 +1,5 @@
 -- Counts of faults over several calls.
-use Rattle.std.proofs.Common.{◌≡◌, ℕ, ◌≤◌, subst, arith}
+use Rattle.std.proofs.Common.{◌≡◌, ℕ, ◌-◌, ◌^◌, ◌≤◌, subst, arith}
 use Rattle.std.specs.Prelude.{Result, Ok, Err}
 use Rattle.sig_io.specs.declared.faults.WriteError.{WriteError}
 use Rattle.sig_io.specs.declared.faults.WriteError.TheVariants as write
@@ -20,10 +20,10 @@ fetch_never_falls (Err fetch.NoMemory) before now h = omega (arith, h)
 
 -- it rose later, or had risen before
 pub rose_later : (first before now : ℕ) → first ≤ before → Rose before now → Rose first now
-rose_later first before now le (grew, next) = (omega (arith, le, grew), omega (arith, le, next))
+rose_later first before now le (grew, next, fits) = (omega (arith, le, grew), omega (arith, le, next), fits)
 
-pub rose_before : (before now last : ℕ) → Rose before now → now ≤ last → Rose before last
-rose_before before now last (grew, next) le = (omega (arith, le, grew), omega (arith, le, next))
+pub rose_before : (before now last : ℕ) → Rose before now → now ≤ last → last ≤ 2 ^ 64 - 1 → Rose before last
+rose_before before now last (grew, next, within) le fits = (omega (arith, le, grew), omega (arith, le, next), fits)
 
 -- a call after others that left the count as it was
 pub write_cause_after : {T : Type 0} (r : Result T WriteError) (first before now : ℕ) → before ≡ first → WriteCause before now r → WriteCause first now r

@@ -1,11 +1,11 @@
 -- Bytes that are told grow at their end, and what several writes appended together.
-use Rattle.std.proofs.Common.{◌≡◌, [], ℕ, ◌+◌, ◌-◌, ◌≤◌, length, subst, arith, List, ◌++◌, take, drop, refl, ap, sym, ◌∙◌}
+use Rattle.std.proofs.Common.{◌≡◌, [], ℕ, ◌+◌, ◌-◌, ◌<◌, ◌≤◌, length, subst, arith, List, ◌++◌, take, drop, refl, ap, sym, ◌∙◌}
 use Rattle.std.specs.Prelude.{Option, Some, None, Result, Ok, Err}
 use Rattle.std.specs.Io.KnownBytes.{append_known}
 use Rattle.std.proofs.lemmas.List.{append_assoc, append-nil, take_all, take-append-le, length-append, length-drop}
 use Rattle.std.proofs.Math.Seq.{take-add, take-append-add}
 use Rattle.sigma_base.proofs.SliceLaws.{to_the_end}
-use Rattle.sig_io.specs.Told.{WritesPrefix, WritesAll}
+use Rattle.sig_io.specs.Told.{WritesPrefix, WritesLess, WritesAll}
 
 pub append_twice : (o : Option (List ℕ)) (xs ys : List ℕ) → append_known (append_known o xs) ys ≡ append_known o (xs ++ ys)
 append_twice None xs ys = refl
@@ -24,7 +24,7 @@ prefix_of_whole old new piece e = (length piece, omega arith, e ∙ ap (append_k
 
 pub prefix_of_written : {T E : Type 0} (r : Result T E) (old new : Option (List ℕ)) (piece : List ℕ) → WritesAll old new piece r → WritesPrefix old new piece
 prefix_of_written (Ok x) old new piece h = prefix_of_whole old new piece h
-prefix_of_written (Err x) old new piece h = h
+prefix_of_written (Err x) old new piece (n, lt, h) = (n, omega (arith, lt), h)
 
 -- a prefix of a piece is one of a longer piece
 pub prefix_of_more : (old new : Option (List ℕ)) (first second : List ℕ) → WritesPrefix old new first → WritesPrefix old new (first ++ second)
@@ -39,11 +39,19 @@ prefix_after old mid new first second e (n, le, h) = (
   h ∙ ap (λ (o : Option (List ℕ)). append_known o (take n second)) e ∙ append_twice old first (take n second) ∙ ap (append_known old) (sym (take-append-add first second n)),
 )
 
+-- less than a second piece after a whole first one
+pub less_after : (old mid new : Option (List ℕ)) (first second : List ℕ) → mid ≡ append_known old first → WritesLess mid new second → WritesLess old new (first ++ second)
+less_after old mid new first second e (n, lt, h) = (
+  length first + n,
+  subst (λ k. length first + n < k) (sym (length-append first second)) (omega (arith, lt)),
+  h ∙ ap (λ (o : Option (List ℕ)). append_known o (take n second)) e ∙ append_twice old first (take n second) ∙ ap (append_known old) (sym (take-append-add first second n)),
+)
+
 -- a second piece after a whole first one
 pub written_both : {T E : Type 0} (r : Result T E) (old mid new : Option (List ℕ)) (first second : List ℕ)
     → mid ≡ append_known old first → WritesAll mid new second r → WritesAll old new (first ++ second) r
 written_both (Ok x) old mid new first second e h = h ∙ ap (λ (o : Option (List ℕ)). append_known o second) e ∙ append_twice old first second
-written_both (Err x) old mid new first second e h = prefix_after old mid new first second e h
+written_both (Err x) old mid new first second e h = less_after old mid new first second e h
 
 -- n bytes of what is left of the piece, after w of it
 pub grown : (now before old : Option (List ℕ)) (p : List ℕ) (w n : ℕ) → w ≤ length p → n ≤ length (take (length p - w) (drop w p))

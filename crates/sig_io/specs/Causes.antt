@@ -5,9 +5,9 @@ use Rattle.sig_io.specs.declared.faults.WriteError.TheVariants as write
 use Rattle.sig_io.specs.declared.faults.FetchError.{FetchError}
 use Rattle.sig_io.specs.declared.faults.FetchError.TheVariants as fetch
 
--- the count is larger than before, or it stood at the greatest `u64` and stays there
+-- the count is larger than before, or it stood at the greatest `u64`, which it never passes, and stays there
 abbrev pub Rose : ℕ → ℕ → Type 0
-Rose before now = (before ≤ now) × (min (before + 1) (2 ^ 64 - 1) ≤ now)
+Rose before now = (before ≤ now) × (min (before + 1) (2 ^ 64 - 1) ≤ now) × (now ≤ 2 ^ 64 - 1)
 
 -- the next number of a count, which stays at the greatest `u64`
 abbrev pub next_number : ℕ → ℕ

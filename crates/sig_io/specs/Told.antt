@@ -15,10 +15,14 @@ WritesPart old new piece (Err e) = new ≡ old
 abbrev pub WritesPrefix : Option (List ℕ) → Option (List ℕ) → List ℕ → Type 0
 WritesPrefix old new piece = (n : ℕ) × (n ≤ length piece) × (new ≡ append_known old (take n piece))
 
--- the whole piece was appended, or at a refusal a prefix of it
+-- a prefix of the piece was appended, and something of the piece is left
+abbrev pub WritesLess : Option (List ℕ) → Option (List ℕ) → List ℕ → Type 0
+WritesLess old new piece = (n : ℕ) × (n < length piece) × (new ≡ append_known old (take n piece))
+
+-- the whole piece was appended, or at a refusal less than that
 abbrev pub WritesAll : {T E : Type 0} → Option (List ℕ) → Option (List ℕ) → List ℕ → Result T E → Type 0
 WritesAll old new piece (Ok x) = new ≡ append_known old piece
-WritesAll old new piece (Err e) = WritesPrefix old new piece
+WritesAll old new piece (Err e) = WritesLess old new piece
 
 -- the bytes of the first file of that name
 abbrev pub body_of : List (List ℕ × List ℕ) → List ℕ → Option (List ℕ)

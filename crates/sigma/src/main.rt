@@ -1,11 +1,11 @@
 //! The program: the tool over files of the disk and standard output.
 #![tactic(auto)]
 
-ghost use Rattle.std.specs.Prelude.{◌≡◌, ◌^◌, ◌<◌, ◌-◌, length};
-
+mod arguments;
 mod screen;
 mod shelf;
 
+use crate::arguments::Arguments;
 use crate::screen::Screen;
 use crate::shelf::FileShelf;
 use sig_io::Words;
@@ -19,12 +19,12 @@ use std::rt::Env;
 /// The words after the program's name, or none where one of them isn't UTF-8.
 fn words_of<R: Env + AllocGlobal>(rt: &R) -> Result<Words, NoMemory> {
     let mut words = Words::new(rt.alloc());
-    let arguments = match env::args(rt) {
+    let arguments = match env::args(&(Arguments { env: rt }, rt.alloc())) {
         Ok(arguments) => arguments,
         Err(error) if error.kind() == ErrorKind::OutOfMemory => return Err(NoMemory),
         Err(_) => return Ok(words),
     };
-    for word in arguments.skip(1) {
+    for word in arguments {
         if words.count() == u32::MAX {
             return Err(NoMemory);
         }
@@ -41,3 +41,6 @@ fn main(rt: HostRuntime) -> ExitCode {
     let mut screen = Screen::over(io::writer(&rt));
     ExitCode::from(run_tool(rt.alloc(), &words, &mut files, &mut screen))
 }
+
+#[cfg(test)]
+mod tests;

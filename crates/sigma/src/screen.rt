@@ -13,7 +13,9 @@ pub struct Screen<W: Write> {
 }
 
 impl<W: Write> Screen<W> {
-    pub fn over(inner: W) -> Screen<W> {
+    pub fn over(inner: W) -> Screen<W>
+        ensures { result.faults ≡ 0 }
+    {
         Screen { inner, faults: 0 }
     }
 
@@ -33,15 +35,19 @@ impl<W: Write> Sink for Screen<W> {
 
     ghost faults = { λ s. s.faults };
 
-    /// A write of nothing is a failure.
+    /// A write that was interrupted is tried again, and a write of nothing is a failure.
     fn write(&mut self, piece: &[u8]) -> Result<usize, WriteError> {
         if piece.is_empty() {
             return Ok(0);
         }
-        match self.inner.write(piece) {
-            Ok(0) => Err(self.fails()),
-            Ok(count) => Ok(count),
-            Err(_) => Err(self.fails()),
+        for _ in 0..u64::MAX {
+            match self.inner.write(piece) {
+                Ok(0) => break,
+                Ok(count) => return Ok(count),
+                Err(error) if error.kind() == ErrorKind::Interrupted => {}
+                Err(_) => break,
+            }
         }
+        Err(self.fails())
     }
 }

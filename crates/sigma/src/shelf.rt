@@ -1,4 +1,5 @@
 //! Files of the disk.
+ghost use Rattle.std.specs.Prelude.{◌≡◌};
 ghost use Rattle.sig_io.specs.Causes.{FetchCause};
 ghost use Rattle.sig_io.specs.declared.files.Fetched.{Fetched};
 
@@ -16,7 +17,9 @@ pub struct FileShelf<'a, R: rt::Files> {
 }
 
 impl<'a, R: rt::Files> FileShelf<'a, R> {
-    pub fn new(rt: &'a R, alloc: Global) -> FileShelf<'a, R> {
+    pub fn new(rt: &'a R, alloc: Global) -> FileShelf<'a, R>
+        ensures { result.faults ≡ 0 }
+    {
         FileShelf {
             rt,
             alloc,
@@ -44,10 +47,12 @@ impl<'a, R: rt::Files> FileShelf<'a, R> {
     }
 }
 
-/// There is no such file, also where a part of the path before its last is a file.
+/// There is no such file, also where a part of the path before its last is a file, or a part is too long for a name.
 fn is_absence(error: &io::Error) -> bool {
     let kind = error.kind();
-    kind == ErrorKind::NotFound || kind == ErrorKind::NotADirectory
+    kind == ErrorKind::NotFound
+        || kind == ErrorKind::NotADirectory
+        || kind == ErrorKind::InvalidFilename
 }
 
 impl<R: rt::Files> Files for FileShelf<'_, R> {
