@@ -10,7 +10,7 @@ pub fn one_reading_law()
 /// What is plain has nothing that the layers above treat in another way: facts are ground, no row variable occurs, and no
 /// logical word, no `equal`, no head of a shown form and no function's name stands at a head.
 pub fn plain_atom_law()
-    ensures ground { laws.FactsAreGround }
-    ensures rowless { laws.GoalsHaveNoRow }
-    ensures headed { laws.HeadsArePlain }
+    ensures facts { laws.FactsAreGround }
+    ensures goals { laws.GoalsHaveNoRow }
+    ensures heads { laws.HeadsArePlain }
 {}
