@@ -1,16 +1,17 @@
 -- What filling in variables gives at each kind of form, and the laws of composition and agreement.
 use Rattle.std.proofs.Common.{◌≡◌, List, [], ◌∷◌, map, Bool, true, false, ◌&&◌, if◌then◌else◌, refl, sym, ap, ap₂, ◌∙◌, subst}
 use Rattle.std.specs.Str.{bytes_eq}
-use Rattle.sigma_base.specs.Lists.{Each, each_left, each_right, map_each, map_twice}
-use Rattle.kif_tree.specs.declared.form.Form.{Form}
+use Rattle.sigma_base.specs.Lists.{Each, each_append, each_left, each_right, map_each, map_twice}
+use Rattle.kif_tree.specs.declared.form.Form.{Form, out-Form}
 use Rattle.kif_tree.specs.declared.form.Form.TheVariants as form
+use Rattle.kif_tree.specs.declared.form.Form.TheOpen.{Form-F}
 use Rattle.kif_tree.specs.declared.subst.Pair.{Pair}
 use Rattle.kif_tree.specs.declared.subst.Unnamed.{Unnamed}
 use Rattle.kif_tree.specs.declared.subst.Unnamed.TheVariants.{Stays, BecomesAny}
 use Rattle.kif_tree.specs.Terms.{Bytes, variables, joined, clean}
 use Rattle.kif_tree.specs.Subst.{Filling, bind, bind_step, via, lookup, apply, value_of, filling_of, compose}
 use Rattle.kif_tree.specs.FormLaws.{induction, fold-Word, fold-Variable, fold-Row, fold-Numeral, fold-Quoted, fold-List}
-use Rattle.kif_tree.proofs.TermLaws.{variables-Variable, variables-List, clean-Word, clean-Row, clean-Numeral, clean-Quoted, clean-List, clean_all}
+use Rattle.kif_tree.proofs.TermLaws.{variables-Word, variables-Variable, variables-Row, variables-Numeral, variables-Quoted, variables-List, clean-Word, clean-Row, clean-Numeral, clean-Quoted, clean-List, clean_all}
 
 pub bind-Word : (g : Filling) (text : Bytes) → bind g (form.Word text) ≡ form.Word text
 unfolding bind
@@ -84,6 +85,28 @@ agree f g = induction (λ x. Each (Agree f g) (variables x) → bind f x ≡ bin
   quoted = λ text h. bind-Quoted f text ∙ sym (bind-Quoted g text);
   list = λ parts each h.
       bind-List f parts ∙ ap form.List (agree_parts f g parts each (subst (Each (Agree f g)) (variables-List parts) h)) ∙ sym (bind-List g parts);
+})
+
+-- and where the form becomes the same, they agree
+
+agree_back_parts : (f g : Filling) (parts : List Form) → Each (λ x. bind f x ≡ bind g x → Each (Agree f g) (variables x)) parts
+    → map (bind f) parts ≡ map (bind g) parts → Each (Agree f g) (joined (map variables parts))
+agree_back_parts f g [] each h = tt
+agree_back_parts f g (x ∷ parts) each h =
+    each_append (Agree f g) (variables x) (joined (map variables parts)) (each.0 (cc)) (agree_back_parts f g parts each.1 (cc))
+
+pub agree_back : (f g : Filling) (x : Form) → bind f x ≡ bind g x → Each (Agree f g) (variables x)
+agree_back f g = induction (λ x. bind f x ≡ bind g x → Each (Agree f g) (variables x)) (record {
+  word = λ text h. subst (Each (Agree f g)) (sym (variables-Word text)) tt;
+  variable = λ text h. subst (Each (Agree f g)) (sym (variables-Variable text)) (sym (bind-Variable f text) ∙ h ∙ bind-Variable g text, tt);
+  row = λ text h. subst (Each (Agree f g)) (sym (variables-Row text)) tt;
+  numeral = λ text h. subst (Each (Agree f g)) (sym (variables-Numeral text)) tt;
+  quoted = λ text h. subst (Each (Agree f g)) (sym (variables-Quoted text)) tt;
+  list = λ parts each h.
+      let lists : form.List (map (bind f) parts) ≡ form.List (map (bind g) parts) = sym (bind-List f parts) ∙ h ∙ bind-List g parts in
+      let layers : Form-F.List (map (bind f) parts) ≡ Form-F.List (map (bind g) parts) =
+      sym (form.outs-List (map (bind f) parts)) ∙ ap out-Form lists ∙ form.outs-List (map (bind g) parts) in
+      subst (Each (Agree f g)) (sym (variables-List parts)) (agree_back_parts f g parts each (cc));
 })
 
 -- ---- a filling whose forms are clean makes a form without row variables clean

@@ -19,6 +19,10 @@ SameDecides = (first second : Form) → Decides (same first second) (first ≡ s
 abbrev pub Agrees : Type 0
 Agrees = (first second : Filling) (form : Form) → Each (λ name. first name ≡ second name) (variables form) → bind first form ≡ bind second form
 
+-- and only those
+abbrev pub AgreesOnly : Type 0
+AgreesOnly = (first second : Filling) (form : Form) → bind first form ≡ bind second form → Each (λ name. first name ≡ second name) (variables form)
+
 -- ground forms in the place of all variables make a form without row variables ground
 abbrev pub Grounds : Type 0
 Grounds = (g : Filling) (form : Form) → has_no_row form ≡ true → ((name : Bytes) → is_ground (g name) ≡ true) → is_ground (bind g form) ≡ true

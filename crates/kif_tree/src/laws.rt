@@ -11,9 +11,10 @@ pub fn equality_law()
     ensures { laws.SameDecides }
 {}
 
-/// Fillings that agree on the variables of a form agree on the form.
+/// Fillings agree on a form exactly where they agree on its variables.
 pub fn agreement_law()
-    ensures { laws.Agrees }
+    ensures agree { laws.Agrees }
+    ensures only { laws.AgreesOnly }
 {}
 
 /// Ground forms in the place of all variables make a form without row variables ground.

@@ -1,5 +1,6 @@
 pub mod EvidenceLaws
 pub mod MatchLaws
+pub mod OutcomeLaws
 pub mod PlainLaws
 pub mod ProofLaws
 pub mod RunLaws

@@ -1,4 +1,5 @@
 pub mod Evidence
+pub mod Laws
 pub mod Matching
 pub mod Page
 pub mod Proof

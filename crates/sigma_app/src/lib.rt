@@ -1,12 +1,14 @@
 //! The top calls: the command-line tool over any files and any sink.
 #![tactic(auto)]
 
+mod laws;
 mod matching;
 mod page;
 mod proof;
 mod tool;
 mod words;
 
+pub use laws::one_outcome_law;
 pub use tool::run_tool;
 
 #[cfg(test)]
