@@ -64,26 +64,6 @@ pub without_more : (xs : Literals) (i : ℕ) (x : Literal) → i < length xs →
 without_more xs i x below is =
     ap without_repeats (take_more xs i x below) ∙ without-snoc (take i xs) (get_or xs i x) ∙ ap (with (without_repeats (take i xs))) (sym is)
 
--- ---- names
-
-variables-append : (xs ys : Literals) → clause_variables (xs ++ ys) ≡ clause_variables xs ++ clause_variables ys
-variables-append [] ys = refl
-variables-append (x ∷ xs) ys =
-    ap (λ names. variables x.atom ++ names) (variables-append xs ys) ∙ sym (append_assoc (variables x.atom) (clause_variables xs) (clause_variables ys))
-
-right_unit : (xs : List Bytes) → xs ++ [] ≡ xs
-right_unit [] = refl
-right_unit (x ∷ xs) = ap (λ ys. x ∷ ys) (right_unit xs)
-
-pub names_more : (found : List Bytes) (xs : Literals) (i : ℕ) (x : Literal) → i < length xs → x ≡ get_or xs i x
-    → joined_once found (clause_variables (take (i + 1) xs)) ≡ joined_once (joined_once found (clause_variables (take i xs))) (variables x.atom)
-names_more found xs i x below is =
-    ap (λ (ls : Literals). joined_once found (clause_variables ls)) (take_more xs i x below)
-    ∙ ap (joined_once found) (variables-append (take i xs) (get_or xs i x ∷ []))
-    ∙ joined_once-append found (clause_variables (take i xs)) (variables (get_or xs i x).atom ++ [])
-    ∙ ap (joined_once (joined_once found (clause_variables (take i xs)))) (right_unit (variables (get_or xs i x).atom))
-    ∙ ap (λ (l : Literal). joined_once (joined_once found (clause_variables (take i xs))) (variables l.atom)) (sym is)
-
 -- ---- numbers
 
 pair_of : Bytes → ℕ → Pair

@@ -1,8 +1,8 @@
 -- What each function of `Terms` gives at each kind of form.
-use Rattle.std.proofs.Common.{◌≡◌, ℕ, ◌+◌, ◌<◌, max, sum, List, [], ◌∷◌, ◌++◌, map, take, length, get_or, arith, Bool, true, false, ◌&&◌, refl, sym, ap, ◌∙◌}
+use Rattle.std.proofs.Common.{◌≡◌, ℕ, ◌+◌, ◌-◌, ◌<◌, ◌≤◌, max, sum, List, [], ◌∷◌, ◌++◌, map, take, drop, length, get_or, arith, Bool, true, false, ◌&&◌, refl, sym, ap, ◌∙◌}
 use Rattle.std.specs.List.{list_all, list_any}
 use Rattle.std.proofs.lemmas.List.Folds.{list_all-map}
-use Rattle.std.proofs.lemmas.List.{map_more}
+use Rattle.std.proofs.lemmas.List.{map_more, take_all}
 use Rattle.std.proofs.lemmas.List.Sums.{sum_by-append, sum_by-cons}
 use Rattle.std.specs.Str.{bytes_eq}
 use Rattle.sigma_base.specs.Lists.{list_any-map}
@@ -69,11 +69,25 @@ pub depth-Quoted : (text : Bytes) → depth (form.Quoted text) ≡ 0
 unfolding depth
 depth-Quoted = fold-Quoted ℕ depth_step
 
-pub depth-List : (parts : List Form) → depth (form.List parts) ≡ greatest (map depth parts) + 1
+pub depth-empty : depth (form.List []) ≡ 1
 unfolding depth
-depth-List = fold-List ℕ depth_step
+depth-empty = fold-List ℕ depth_step []
 
-pub ruleset depth_laws = (depth-Word, depth-Variable, depth-Row, depth-Numeral, depth-Quoted, depth-List)
+pub depth-List : (head : Form) (arguments : List Form) → depth (form.List (head ∷ arguments)) ≡ greatest (map depth arguments) + 1
+unfolding depth
+depth-List head arguments = fold-List ℕ depth_step (head ∷ arguments)
+
+-- as a slice pattern names the arguments
+pub depth-arguments : (parts : List Form) → 1 ≤ length parts → depth (form.List parts) ≡ greatest (map depth (take (length parts - 1) (drop 1 parts))) + 1
+depth-arguments [] some = absurd (omega (arith, some))
+depth-arguments (head ∷ arguments) some =
+    depth-List head arguments ∙ ap (λ (xs : List Form). greatest (map depth xs) + 1) (sym (take_all (length (head ∷ arguments) - 1) arguments (omega arith)))
+
+pub none-empty : {X : Type 0} (xs : List X) → length xs < 1 → xs ≡ []
+none-empty [] below = refl
+none-empty (x ∷ xs) below = absurd (omega (arith, below))
+
+pub ruleset depth_laws = (depth-Word, depth-Variable, depth-Row, depth-Numeral, depth-Quoted, depth-empty, depth-List)
 
 pub depth_other : (f : Form) → ((parts : List Form) → f ≡ form.List parts → ⊥) → depth f ≡ 0
 depth_other = induction (λ f. ((parts : List Form) → f ≡ form.List parts → ⊥) → depth f ≡ 0) (record {
@@ -177,7 +191,7 @@ pub symbols-Variable : (text : Bytes) → symbols (form.Variable text) ≡ 1
 unfolding symbols
 symbols-Variable = fold-Variable ℕ symbols_step
 
-pub symbols-Row : (text : Bytes) → symbols (form.Row text) ≡ 1
+pub symbols-Row : (text : Bytes) → symbols (form.Row text) ≡ 0
 unfolding symbols
 symbols-Row = fold-Row ℕ symbols_step
 
@@ -193,14 +207,14 @@ pub symbols-List : (parts : List Form) → symbols (form.List parts) ≡ sum (ma
 unfolding symbols
 symbols-List = fold-List ℕ symbols_step
 
-pub symbols_other : (f : Form) → ((parts : List Form) → f ≡ form.List parts → ⊥) → symbols f ≡ 1
-symbols_other = induction (λ f. ((parts : List Form) → f ≡ form.List parts → ⊥) → symbols f ≡ 1) (record {
-  word = λ text other. symbols-Word text;
-  variable = λ text other. symbols-Variable text;
-  row = λ text other. symbols-Row text;
-  numeral = λ text other. symbols-Numeral text;
-  quoted = λ text other. symbols-Quoted text;
-  list = λ parts each other. absurd (other parts refl);
+pub symbols_other : (f : Form) → ((text : Bytes) → f ≡ form.Row text → ⊥) → ((parts : List Form) → f ≡ form.List parts → ⊥) → symbols f ≡ 1
+symbols_other = induction (λ f. ((text : Bytes) → f ≡ form.Row text → ⊥) → ((parts : List Form) → f ≡ form.List parts → ⊥) → symbols f ≡ 1) (record {
+  word = λ text _ _. symbols-Word text;
+  variable = λ text _ _. symbols-Variable text;
+  row = λ text other _. absurd (other text refl);
+  numeral = λ text _ _. symbols-Numeral text;
+  quoted = λ text _ _. symbols-Quoted text;
+  list = λ parts each _ other. absurd (other parts refl);
 })
 
 pub ruleset symbols_laws = (symbols-Word, symbols-Variable, symbols-Row, symbols-Numeral, symbols-Quoted, symbols-List)

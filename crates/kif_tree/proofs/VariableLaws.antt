@@ -2,9 +2,11 @@
 use Rattle.std.proofs.Common.{◌≡◌, ℕ, ◌+◌, ◌<◌, List, [], ◌∷◌, ◌++◌, map, take, length, get_or, filter, Bool, true, false, not, ◌||◌, ◌&&◌, if◌then◌else◌, refl, sym, ap, ap₂, ◌∙◌, append_assoc}
 use Rattle.std.specs.List.{list_any}
 use Rattle.std.specs.Str.{bytes_eq}
-use Rattle.std.proofs.lemmas.List.{map_more}
+use Rattle.std.proofs.lemmas.List.{map_more, take_more}
 use Rattle.std.proofs.lemmas.Slice.Eq.{bytes_eq-Decides}
-use Rattle.kif_tree.specs.Terms.{Bytes, joined, distinct, joined_once}
+use Rattle.kif_tree.specs.declared.clause.Literal.{Literal}
+use Rattle.kif_tree.specs.Terms.{Bytes, variables, joined, distinct, joined_once}
+use Rattle.kif_tree.specs.Clauses.{Literals, clause_variables}
 
 abbrev is_new : List Bytes → Bytes → Bool
 is_new found name = not (list_any (bytes_eq name) found)
@@ -125,3 +127,19 @@ joined_once_more {X = X} names found xs i x lt is =
     ∙ ap (joined_once found) (joined_snoc (map names (take i xs)) (names (get_or xs i x)))
     ∙ joined_once-append found (joined (map names (take i xs))) (names (get_or xs i x))
     ∙ ap (λ (y : X). joined_once (joined_once found (joined (map names (take i xs)))) (names y)) (sym is)
+
+-- ---- literals
+
+variables-append : (xs ys : Literals) → clause_variables (xs ++ ys) ≡ clause_variables xs ++ clause_variables ys
+variables-append [] ys = refl
+variables-append (x ∷ xs) ys =
+    ap (λ names. variables x.atom ++ names) (variables-append xs ys) ∙ sym (append_assoc (variables x.atom) (clause_variables xs) (clause_variables ys))
+
+pub names_more : (found : List Bytes) (xs : Literals) (i : ℕ) (x : Literal) → i < length xs → x ≡ get_or xs i x
+    → joined_once found (clause_variables (take (i + 1) xs)) ≡ joined_once (joined_once found (clause_variables (take i xs))) (variables x.atom)
+names_more found xs i x below is =
+    ap (λ (ls : Literals). joined_once found (clause_variables ls)) (take_more xs i x below)
+    ∙ ap (joined_once found) (variables-append (take i xs) (get_or xs i x ∷ []))
+    ∙ joined_once-append found (clause_variables (take i xs)) (variables (get_or xs i x).atom ++ [])
+    ∙ ap (joined_once (joined_once found (clause_variables (take i xs)))) (right_unit (variables (get_or xs i x).atom))
+    ∙ ap (λ (l : Literal). joined_once (joined_once found (clause_variables (take i xs))) (variables l.atom)) (sym is)

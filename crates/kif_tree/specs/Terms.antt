@@ -70,23 +70,27 @@ abbrev pub greatest : List ℕ → ℕ
 greatest [] = 0
 greatest (x ∷ xs) = max x (greatest xs)
 
--- a list nests one level deeper than its deepest part, and any other form nests 0
+abbrev pub after_head : {X : Type 0} → List X → List X
+after_head [] = []
+after_head (head ∷ arguments) = arguments
+
+-- a list nests one level deeper than its deepest argument, and 1 where it has none; any other form nests 0
 abbrev pub depth_step : Form-F ℕ → ℕ
 depth_step (Form-F.Word text) = 0
 depth_step (Form-F.Variable text) = 0
 depth_step (Form-F.Row text) = 0
 depth_step (Form-F.Numeral text) = 0
 depth_step (Form-F.Quoted text) = 0
-depth_step (Form-F.List parts) = greatest parts + 1
+depth_step (Form-F.List parts) = greatest (after_head parts) + 1
 
 unfoldable pub depth : Form → ℕ
 depth = fold-Form ℕ depth_step
 
--- how many words, variables, numerals and strings occur; a row variable counts too
+-- how many words, variables, numerals and strings occur
 abbrev pub symbols_step : Form-F ℕ → ℕ
 symbols_step (Form-F.Word text) = 1
 symbols_step (Form-F.Variable text) = 1
-symbols_step (Form-F.Row text) = 1
+symbols_step (Form-F.Row text) = 0
 symbols_step (Form-F.Numeral text) = 1
 symbols_step (Form-F.Quoted text) = 1
 symbols_step (Form-F.List parts) = sum parts

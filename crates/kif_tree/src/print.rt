@@ -31,10 +31,9 @@ fn append_escaped(out: &mut Text, bytes: &[u8]) -> Result<(), NoMemory>
     Ok(())
 }
 
-/// Adds the printed form at the end.
 #[cycle(append)]
 #[tactic(auto, using(crate::proofs::PrintLaws::form_text_laws))]
-pub fn append_form(out: &mut Text, form: &Form) -> Result<(), NoMemory>
+fn append_form(out: &mut Text, form: &Form) -> Result<(), NoMemory>
     ensures { OnOk result (out.new ≡ out.old ++ spec.form_text form.now) }
 {
     match form {
@@ -97,8 +96,7 @@ fn append_literals(out: &mut Text, first: &Literal, rest: &[Literal]) -> Result<
     Ok(())
 }
 
-/// Adds the printed clause at the end.
-pub fn append_clause(out: &mut Text, clause: &Clause) -> Result<(), NoMemory>
+fn append_clause(out: &mut Text, clause: &Clause) -> Result<(), NoMemory>
     ensures { OnOk result (out.new ≡ out.old ++ spec.clause_text clause.now) }
 {
     match clause.literals.items() {
@@ -133,8 +131,16 @@ fn append_name(out: &mut Text, mut names: &[LoadName], number: u32) -> Result<()
     Ok(())
 }
 
-/// Adds `NAME:LINE:COLUMN` at the end. Of several names of the load the first counts, and without one it is empty.
-pub fn append_place(out: &mut Text, names: &[LoadName], place: &Place) -> Result<(), NoMemory>
+/// `NAME:LINE:COLUMN`. Of several names of the load the first counts, and without one it is empty.
+pub fn print_place(alloc: Global, names: &[LoadName], place: &Place) -> Result<Text, NoMemory>
+    ensures { IfOk result (λ text. text ≡ spec.place_text names.now place.now) }
+{
+    let mut out = Text::new(alloc);
+    append_place(&mut out, names, place)?;
+    Ok(out)
+}
+
+fn append_place(out: &mut Text, names: &[LoadName], place: &Place) -> Result<(), NoMemory>
     ensures { OnOk result (out.new ≡ out.old ++ spec.place_text names.now place.now) }
 {
     append_name(out, names, place.constituent)?;

@@ -1,7 +1,9 @@
 //! What a form is made of.
 ghost use Rattle.std.specs.Prelude.{◌≡◌, ◌++◌, ◌∷◌, [], min, sum, map, IfOk, OnOk};
+ghost use Rattle.kif_tree.specs.Clauses as clauses;
 ghost use Rattle.kif_tree.specs.Terms as spec;
 
+use crate::clause::Literal;
 use crate::form::Form;
 use crate::text::Text;
 use sigma_base::{Listed, NoMemory};
@@ -60,16 +62,19 @@ pub fn occurs(name: &Text, form: &Form) -> bool
     }
 }
 
-/// How deep lists nest, or the greatest `u64` where they nest deeper. It takes no memory.
+/// How deep lists nest in arguments, or the greatest `u64` where they nest deeper. It takes no memory.
 #[tactic(auto, using(crate::proofs::TermLaws::depth_laws))]
 pub fn depth(form: &Form) -> u64
     ensures { result ≡ min (spec.depth form.now) 18446744073709551615 }
 {
     match form {
         Form::List(parts) => {
+            let [_, arguments @ ..] = parts.items() else {
+                return 1;
+            };
             let mut deepest = 0;
-            for part in parts.items() {
-                deepest = depth(part).max(deepest);
+            for argument in arguments {
+                deepest = depth(argument).max(deepest);
             }
             deepest.saturating_add(1)
         }
@@ -77,8 +82,7 @@ pub fn depth(form: &Form) -> u64
     }
 }
 
-/// How many words, variables, numerals and strings occur, or the greatest `u64` where more do. A row variable counts too.
-/// It takes no memory.
+/// How many words, variables, numerals and strings occur, or the greatest `u64` where more do. It takes no memory.
 #[tactic(auto, using(crate::proofs::TermLaws::symbols_laws))]
 pub fn symbols(form: &Form) -> u64
     ensures { result ≡ min (spec.symbols form.now) 18446744073709551615 }
@@ -91,6 +95,7 @@ pub fn symbols(form: &Form) -> u64
             }
             count
         }
+        Form::Row(_) => 0,
         _ => 1,
     }
 }
@@ -104,9 +109,20 @@ pub fn variables_of(alloc: Global, form: &Form) -> Result<Listed<Text>, NoMemory
     Ok(found)
 }
 
+/// The variables of the literals in order of first occurrence, each once.
+pub fn variables_in(alloc: Global, literals: &[Literal]) -> Result<Listed<Text>, NoMemory>
+    ensures { IfOk result (λ names. names ≡ spec.distinct (clauses.clause_variables literals.now)) }
+{
+    let mut found = Listed::new(alloc);
+    for literal in literals {
+        append_variables(alloc, &mut found, &literal.atom)?;
+    }
+    Ok(found)
+}
+
 /// Adds the variables of the form that aren't among those found so far, in order of first occurrence, each once.
 #[tactic(auto, using(crate::proofs::TermLaws::variables_laws))]
-pub fn append_variables(
+fn append_variables(
     alloc: Global,
     found: &mut Listed<Text>,
     form: &Form,

@@ -11,4 +11,4 @@ pub returns-after-loop-part : goal.returns-after-loop-part
 returns-after-loop-part t c = grind (arith, symbols_laws, take_all)
 
 pub returns-in_default : goal.returns-in_default
-returns-in_default t c = omega (arith, symbols_other c.args.form.now c.in_default.not-List)
+returns-in_default t c = omega (arith, symbols_other c.args.form.now c.in_default.not-Row c.in_default.not-List)

@@ -1,9 +1,8 @@
 use Rattle.std.proofs.Common.{[], arith}
 use Rattle.std.proofs.lemmas.List.{take_all}
 use Rattle.kif_tree.specs.Clauses.{clause_variables}
-use Rattle.kif_tree.proofs.VariableLaws.{joined_once-start}
-use Rattle.calculus_programs.proofs.TidyingLaws.{names_more}
-use Rattle.calculus_programs.proofs.tidying.names_of.Goals as goal
+use Rattle.kif_tree.proofs.VariableLaws.{joined_once-start, names_more}
+use Rattle.kif_tree.proofs.terms.variables_in.Goals as goal
 
 pub loop-literal-preserved : goal.loop-literal-preserved
 loop-literal-preserved c =
