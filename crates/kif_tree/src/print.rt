@@ -31,7 +31,7 @@ fn append_escaped(out: &mut Text, bytes: &[u8]) -> Result<(), NoMemory>
     Ok(())
 }
 
-/// Adds the printed form at the end.
+/// Adds the printed form at the end. A refusal may leave a part of it there.
 #[cycle(append)]
 #[tactic(auto, using(crate::proofs::PrintLaws::form_text_laws))]
 pub fn append_form(out: &mut Text, form: &Form) -> Result<(), NoMemory>
@@ -97,7 +97,7 @@ fn append_literals(out: &mut Text, first: &Literal, rest: &[Literal]) -> Result<
     Ok(())
 }
 
-/// Adds the printed clause at the end.
+/// Adds the printed clause at the end. A refusal may leave a part of it there.
 pub fn append_clause(out: &mut Text, clause: &Clause) -> Result<(), NoMemory>
     ensures { OnOk result (out.new ≡ out.old ++ spec.clause_text clause.now) }
 {
@@ -134,6 +134,7 @@ fn append_name(out: &mut Text, mut names: &[LoadName], number: u32) -> Result<()
 }
 
 /// Adds `NAME:LINE:COLUMN` at the end. Of several names of the load the first counts, and without one it is empty.
+/// A refusal may leave a part of it there.
 pub fn append_place(out: &mut Text, names: &[LoadName], place: &Place) -> Result<(), NoMemory>
     ensures { OnOk result (out.new ≡ out.old ++ spec.place_text names.now place.now) }
 {

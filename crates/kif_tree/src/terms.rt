@@ -105,6 +105,7 @@ pub fn variables_of(alloc: Global, form: &Form) -> Result<Listed<Text>, NoMemory
 }
 
 /// Adds the variables of the form that aren't among those found so far, in order of first occurrence, each once.
+/// A refusal may leave some of them added.
 #[tactic(auto, using(crate::proofs::TermLaws::variables_laws))]
 pub fn append_variables(
     alloc: Global,
