@@ -10,6 +10,8 @@ mod place;
 mod print;
 mod subst;
 mod terms;
+#[cfg(test)]
+mod tests;
 mod text;
 
 pub use clause::{Clause, InputClause, Literal};

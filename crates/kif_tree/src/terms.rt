@@ -122,11 +122,7 @@ pub fn variables_in(alloc: Global, literals: &[Literal]) -> Result<Listed<Text>,
 
 /// Adds the variables of the form that aren't among those found so far, in order of first occurrence, each once.
 #[tactic(auto, using(crate::proofs::TermLaws::variables_laws))]
-fn append_variables(
-    alloc: Global,
-    found: &mut Listed<Text>,
-    form: &Form,
-) -> Result<(), NoMemory>
+fn append_variables(alloc: Global, found: &mut Listed<Text>, form: &Form) -> Result<(), NoMemory>
     ensures { OnOk result (found.new ≡ spec.joined_once found.old (spec.variables form.now)) }
 {
     match form {

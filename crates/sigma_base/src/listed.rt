@@ -75,3 +75,21 @@ impl<T: Drop> Listed<T> {
         Ok(())
     }
 }
+
+#[cfg(test)]
+mod tests {
+    use super::*;
+    use std::test::Fail;
+
+    #[test]
+    fn items_stand_in_the_order_of_their_calls(rt: HostRuntime) -> Result<(), Fail> {
+        let mut items = Listed::new(rt.alloc());
+        assert_eq!(rt; items.items(), [].as_slice());
+        items.push(3)?;
+        items.push(1)?;
+        items.append(Listed::of([4, 1].to_vec(rt.alloc())?))?;
+        assert_eq!(rt; items.items(), [3, 1, 4, 1].as_slice());
+        assert_eq!(rt; items.into_items().as_slice(), [3, 1, 4, 1].as_slice());
+        Ok(())
+    }
+}
