@@ -2,12 +2,12 @@
 ghost use Rattle.std.specs.Prelude.{◌<◌, ◌^◌, length};
 
 use crate::{FactsError, read_facts, read_goal};
-use kif_tree::{Located, Text, append_form, print_form};
+use kif_tree::{Located, Text, print_form};
 use sigma_base::NoMemory;
 use std::alloc::Global;
 use std::test::Fail;
 
-fn append_fact(out: &mut Text, fact: &Located) -> Result<(), NoMemory> {
+fn append_fact(alloc: Global, out: &mut Text, fact: &Located) -> Result<(), NoMemory> {
     for number in [
         fact.place.constituent,
         fact.place.form,
@@ -17,7 +17,7 @@ fn append_fact(out: &mut Text, fact: &Located) -> Result<(), NoMemory> {
         out.append_decimal(u64::from(number))?;
         out.push(b' ')?;
     }
-    append_form(out, &fact.form)?;
+    out.append(print_form(alloc, &fact.form)?.bytes())?;
     out.push(b';')
 }
 
@@ -29,7 +29,7 @@ fn facts_shown(alloc: Global, text: &[u8]) -> Result<Text, NoMemory>
     match read_facts(alloc, text, 7) {
         Ok(facts) => {
             for fact in &facts {
-                append_fact(&mut out, fact)?;
+                append_fact(alloc, &mut out, fact)?;
             }
         }
         Err(FactsError::NotPlain) => out.append(b"refused")?,

@@ -3,8 +3,9 @@ ghost use Rattle.std.specs.Prelude.{◌≡◌, ◌++◌, OnOk};
 ghost use Rattle.std.specs.List.{flat_map};
 ghost use Rattle.sigma_app.specs.Page as spec;
 
-use kif_tree::{Clause, LoadName, Pair, Place, Text, append_clause, append_form, append_place};
+use kif_tree::{Clause, LoadName, Pair, Place, Text, print_clause, print_form, print_place};
 use sigma_base::{Listed, NoMemory};
+use std::alloc::Global;
 
 /// How a line of a proof comes about.
 #[derive(Clone, Copy, Debug, PartialEq, Eq)]
@@ -49,11 +50,16 @@ fn append_parents(out: &mut Text, parents: &[u32]) -> Result<(), NoMemory>
     Ok(())
 }
 
-fn append_source(out: &mut Text, names: &[LoadName], line: &ProofLine) -> Result<(), NoMemory>
+fn append_source(
+    alloc: Global,
+    out: &mut Text,
+    names: &[LoadName],
+    line: &ProofLine,
+) -> Result<(), NoMemory>
     ensures { OnOk result (out.new ≡ out.old ++ spec.source_text names.now line.now) }
 {
     match (line.rule, &line.place) {
-        (Rule::Axiom, Some(place)) => append_place(out, names, place),
+        (Rule::Axiom, Some(place)) => out.append(print_place(alloc, names, place)?.bytes()),
         (Rule::Axiom, None) => Ok(()),
         (rule, _) => {
             out.append(rule_word(rule))?;
@@ -63,6 +69,7 @@ fn append_source(out: &mut Text, names: &[LoadName], line: &ProofLine) -> Result
 }
 
 fn append_line(
+    alloc: Global,
     out: &mut Text,
     names: &[LoadName],
     number: u64,
@@ -73,14 +80,15 @@ fn append_line(
     out.append(b"  ")?;
     out.append_decimal(number)?;
     out.append(b". ")?;
-    append_clause(out, &line.clause)?;
+    out.append(print_clause(alloc, &line.clause)?.bytes())?;
     out.append(b" [")?;
-    append_source(out, names, line)?;
+    append_source(alloc, out, names, line)?;
     out.append(b"]\n")
 }
 
 /// The lines of a proof, numbered from 1.
 pub fn append_lines(
+    alloc: Global,
     out: &mut Text,
     names: &[LoadName],
     mut lines: &[ProofLine],
@@ -90,38 +98,38 @@ pub fn append_lines(
     let mut number: u64 = 0;
     while let [line, rest @ ..] = lines {
         number += 1;
-        append_line(out, names, number, line)?;
+        append_line(alloc, out, names, number, line)?;
         lines = rest;
     }
     Ok(())
 }
 
-fn append_pair(out: &mut Text, pair: &Pair) -> Result<(), NoMemory>
+fn append_pair(alloc: Global, out: &mut Text, pair: &Pair) -> Result<(), NoMemory>
     ensures { OnOk result (out.new ≡ out.old ++ spec.pair_text pair.now) }
 {
     out.append(b"  ?")?;
     out.append(pair.variable.bytes())?;
     out.append(b" = ")?;
-    append_form(out, &pair.term)?;
+    out.append(print_form(alloc, &pair.term)?.bytes())?;
     out.push(b'\n')
 }
 
-fn append_pairs(out: &mut Text, values: &[Pair]) -> Result<(), NoMemory>
+fn append_pairs(alloc: Global, out: &mut Text, values: &[Pair]) -> Result<(), NoMemory>
     ensures { OnOk result (out.new ≡ out.old ++ flat_map spec.pair_text values.now) }
 {
     for pair in values {
-        append_pair(out, pair)?;
+        append_pair(alloc, out, pair)?;
     }
     Ok(())
 }
 
 /// What the asked variables become, a line each, or `yes` where none is asked.
-pub fn append_binding(out: &mut Text, values: &[Pair]) -> Result<(), NoMemory>
+pub fn append_binding(alloc: Global, out: &mut Text, values: &[Pair]) -> Result<(), NoMemory>
     ensures { OnOk result (out.new ≡ out.old ++ spec.binding_text values.now) }
 {
     match values {
         [] => out.append(b"  yes\n"),
-        _ => append_pairs(out, values),
+        _ => append_pairs(alloc, out, values),
     }
 }
 
@@ -140,6 +148,7 @@ pub fn append_end(out: &mut Text, word: &[u8], turns: u64) -> Result<(), NoMemor
 /// One answer with one binding, and its proof.
 #[tactic(auto, unfolding(crate::specs::Page::answer_text))]
 pub fn append_answer(
+    alloc: Global,
     out: &mut Text,
     names: &[LoadName],
     number: u64,
@@ -151,7 +160,7 @@ pub fn append_answer(
     out.append(b"answer ")?;
     out.append_decimal(number)?;
     out.push(b'\n')?;
-    append_binding(out, values)?;
+    append_binding(alloc, out, values)?;
     out.append(b"proof\n")?;
-    append_lines(out, names, lines)
+    append_lines(alloc, out, names, lines)
 }
