@@ -1,5 +1,7 @@
 pub mod ChoiceLaws
+pub mod FillingLaws
 pub mod OpenLaws
 pub mod PickLaws
 pub mod ShapeLaws
+pub mod StepLaws
 pub mod TidyingLaws

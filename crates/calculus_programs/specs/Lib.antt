@@ -1,3 +1,4 @@
 pub mod Choices
+pub mod Pairs
 pub mod Picks
 pub mod Shape

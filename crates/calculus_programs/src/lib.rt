@@ -1,6 +1,9 @@
 //! A plain program for each definition of the calculus, on small inputs: tests compare other programs with these.
 #![tactic(auto)]
 
+mod evidence_list;
+mod fillings;
+mod instances;
 mod opening;
 mod proper;
 mod refute;
@@ -10,6 +13,9 @@ mod steps;
 mod tidying;
 mod truth;
 
+pub use evidence_list::{Derived, evidence};
+pub use fillings::{follow, turn_back};
+pub use instances::{append_congruences, append_equalities, congruence, equal, replacing_instance, symmetry};
 pub use opening::{fill_frames, framed, open, plugged, sides};
 pub use proper::{has_word_heads, is_proper};
 pub use refute::refutes;
