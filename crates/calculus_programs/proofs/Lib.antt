@@ -1,4 +1,5 @@
 pub mod ChoiceLaws
+pub mod DeriveLaws
 pub mod FillingLaws
 pub mod OpenLaws
 pub mod PickLaws

@@ -1,4 +1,5 @@
 pub mod Choices
+pub mod Derivations
 pub mod Pairs
 pub mod Picks
 pub mod Shape

@@ -10,6 +10,8 @@ mod refute;
 mod replacing;
 mod rules;
 mod steps;
+#[cfg(test)]
+mod tests;
 mod tidying;
 mod truth;
 
@@ -21,6 +23,6 @@ pub use proper::{has_word_heads, is_proper};
 pub use refute::refutes;
 pub use replacing::{Parent, replace};
 pub use rules::{factor, resolve};
-pub use steps::{clause_of, copy_clause, nth, replacement_of, untidy};
+pub use steps::{clause_of, copy_clause, derive, nth, replacement_of, untidy};
 pub use tidying::{append_filled, is_tidy, same_clauses, tidy};
 pub use truth::{holds, is_true, satisfies, satisfies_all};

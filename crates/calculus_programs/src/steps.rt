@@ -1,6 +1,7 @@
 //! The clause of one step of a derivation, and of each.
 ghost use Rattle.std.specs.Prelude.{◌≡◌, IfOk, Some, None, MatchOption};
 ghost use Rattle.calculus.specs.Rules as rules;
+ghost use Rattle.calculus_programs.specs.Derivations.{HasBadStep};
 
 use crate::replacing::{Parent, replace};
 use crate::rules::{factor, resolve};
@@ -166,4 +167,22 @@ pub fn copy_clause(alloc: Global, clause: &Clause) -> Result<Clause, NoMemory>
         })?;
     }
     Ok(Clause { literals })
+}
+
+/// The clauses of the steps, where each step is allowed on the clauses before it.
+pub fn derive(
+    alloc: Global,
+    inputs: &[Clause],
+    steps: &[Step],
+) -> Result<Option<Listed<Clause>>, NoMemory>
+    ensures { IfOk result (λ answer. MatchOption answer (HasBadStep inputs.now steps.now) (λ clauses. rules.Derivation inputs.now steps.now clauses)) }
+{
+    let mut clauses = Listed::new(alloc);
+    for step in steps {
+        let Some(clause) = clause_of(alloc, inputs, step, clauses.items())? else {
+            return Ok(None);
+        };
+        clauses.push(clause)?;
+    }
+    Ok(Some(clauses))
 }
