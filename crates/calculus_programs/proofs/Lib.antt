@@ -4,5 +4,6 @@ pub mod FillingLaws
 pub mod OpenLaws
 pub mod PickLaws
 pub mod ShapeLaws
+pub mod ShapesLaws
 pub mod StepLaws
 pub mod TidyingLaws

@@ -3,3 +3,4 @@ pub mod Derivations
 pub mod Pairs
 pub mod Picks
 pub mod Shape
+pub mod Shapes

@@ -1,6 +1,7 @@
 //! A plain program for each definition of the calculus, on small inputs: tests compare other programs with these.
 #![tactic(auto)]
 
+mod equality;
 mod evidence_list;
 mod fillings;
 mod instances;
@@ -15,6 +16,7 @@ mod tests;
 mod tidying;
 mod truth;
 
+pub use equality::is_equality_instance;
 pub use evidence_list::{Derived, evidence};
 pub use fillings::{follow, turn_back};
 pub use instances::{append_congruences, append_equalities, congruence, equal, replacing_instance, symmetry};

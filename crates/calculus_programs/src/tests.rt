@@ -1,7 +1,10 @@
 //! Derivations worked by hand: each is accepted step by step, and its evidence is computed and refutes.
+use crate::equality::is_equality_instance;
 use crate::evidence_list::{Derived, evidence};
+use crate::proper::is_proper;
 use crate::refute::refutes;
 use crate::steps::derive;
+use crate::tidying::tidy;
 use calculus::Step;
 use kif_tree::{Clause, Form, Literal, Pair, Subst, Text, append_clause};
 use sigma_base::{Listed, NoMemory};
@@ -362,5 +365,136 @@ fn wrong_steps_are_refused(rt: HostRuntime) -> Result<(), Fail> {
     let mut steps = inputs_first(alloc, 2)?;
     steps.push(resolve(alloc, 0, 0, b"", 1, 1, b"X1=a")?)?;
     assert!(rt; derived(alloc, &inputs, &steps)?.bytes() == b"".as_slice());
+    Ok(())
+}
+
+// ---- instances of equality
+
+fn is_instance(alloc: Global, text: &[u8]) -> Result<bool, NoMemory> {
+    is_equality_instance(alloc, &clause(alloc, text)?)
+}
+
+#[test]
+fn instances_of_equality(rt: HostRuntime) -> Result<(), Fail> {
+    let alloc = rt.alloc();
+    assert!(rt; is_instance(alloc, b"equal a a")?);
+    assert!(rt; is_instance(alloc, b"-equal a b|equal b a")?);
+    assert!(rt; is_instance(alloc, b"-equal a b|-equal b c|equal a c")?);
+    assert!(rt; is_instance(alloc, b"-equal a b|-p c a|p c b")?);
+    assert!(rt; is_instance(alloc, b"-equal a a|-p a a|p a a")?);
+    assert!(rt; is_instance(alloc, b"-equal a b|-equal a c|equal b c")?);
+    Ok(())
+}
+
+#[test]
+fn other_clauses(rt: HostRuntime) -> Result<(), Fail> {
+    let alloc = rt.alloc();
+    assert!(rt; !is_instance(alloc, b"equal a b")?);
+    assert!(rt; !is_instance(alloc, b"equal ?X ?X")?);
+    assert!(rt; !is_instance(alloc, b"equal a")?);
+    assert!(rt; !is_instance(alloc, b"equal a a a")?);
+    assert!(rt; !is_instance(alloc, b"-equal a b|-p b|p a")?);
+    assert!(rt; !is_instance(alloc, b"-equal a b|-p a a|p b b")?);
+    assert!(rt; !is_instance(alloc, b"-equal a b|-a c|b c")?);
+    assert!(rt; !is_instance(alloc, b"-equal a b|-equal a b|equal b a")?);
+    Ok(())
+}
+
+/// An atom whose one argument is a list of the second head and argument.
+fn nested(alloc: Global, head: &[u8], inner: &[u8]) -> Result<Form, NoMemory> {
+    let mut parts = Listed::new(alloc);
+    parts.push(word(alloc, head)?)?;
+    parts.push(atom(alloc, inner)?)?;
+    Ok(Form::List(parts))
+}
+
+/// Where a equals b, the lists inside are equal too.
+fn nested_congruence(alloc: Global, first: &[u8], second: &[u8]) -> Result<Clause, NoMemory> {
+    let Clause { mut literals } = clause(alloc, b"-equal a b")?;
+    let mut parts = Listed::new(alloc);
+    parts.push(word(alloc, b"equal")?)?;
+    parts.push(atom(alloc, first)?)?;
+    parts.push(atom(alloc, second)?)?;
+    literals.push(Literal {
+        positive: true,
+        atom: Form::List(parts),
+    })?;
+    Ok(Clause { literals })
+}
+
+#[test]
+fn congruence_of_lists(rt: HostRuntime) -> Result<(), Fail> {
+    let alloc = rt.alloc();
+    assert!(rt; is_equality_instance(alloc, &nested_congruence(alloc, b"f c a", b"f c b")?)?);
+    assert!(rt; !is_equality_instance(alloc, &nested_congruence(alloc, b"f c b", b"f c a")?)?);
+    assert!(rt; !is_equality_instance(alloc, &nested_congruence(alloc, b"f c a", b"g c b")?)?);
+    Ok(())
+}
+
+// ---- a replacement inside nested lists
+
+fn nested_input(alloc: Global, inner: &[u8]) -> Result<Clause, NoMemory> {
+    let mut literals = Listed::new(alloc);
+    literals.push(Literal {
+        positive: true,
+        atom: nested(alloc, b"p", inner)?,
+    })?;
+    Ok(Clause { literals })
+}
+
+fn nested_steps(alloc: Global) -> Result<Listed<Step>, NoMemory> {
+    let mut steps = inputs_first(alloc, 2)?;
+    let mut path = Listed::new(alloc);
+    path.push(1)?;
+    path.push(2)?;
+    steps.push(Step::Paramodulate {
+        source: 0,
+        source_literal: 0,
+        flipped: false,
+        source_subst: subst(alloc, b"")?,
+        target: 1,
+        target_literal: 0,
+        path,
+        target_subst: subst(alloc, b"")?,
+    })?;
+    Ok(steps)
+}
+
+#[test]
+fn replacement_at_depth(rt: HostRuntime) -> Result<(), Fail> {
+    let alloc = rt.alloc();
+    let mut inputs = clauses(alloc, b"equal a b")?;
+    inputs.push(nested_input(alloc, b"f c a")?)?;
+    let steps = nested_steps(alloc)?;
+    assert!(rt; derived(alloc, &inputs, &steps)?.bytes() == b"(p (f c b))\n".as_slice());
+    let list = last_evidence(alloc, &inputs, &steps)?;
+    let text = printed(alloc, list.items())?;
+    assert!(rt; text.bytes() == b"(equal a b)\n(p (f c a))\n(or (not (equal a b)) (equal b a))\n(or (not (equal a b)) (equal (f c a) (f c b)))\n(or (not (equal b a)) (equal (f c b) (f c a)))\n(or (not (equal (f c a) (f c b))) (not (p (f c a))) (p (f c b)))\n(or (not (equal (f c b) (f c a))) (not (p (f c b))) (p (f c a)))\n".as_slice());
+    Ok(())
+}
+
+// ---- tidy and proper clauses
+
+fn tidied(alloc: Global, text: &[u8]) -> Result<Text, NoMemory> {
+    let mut out = Text::new(alloc);
+    append_clause(&mut out, &tidy(alloc, &clause(alloc, text)?)?)?;
+    Ok(out)
+}
+
+fn proper(alloc: Global, text: &[u8]) -> Result<bool, NoMemory> {
+    is_proper(alloc, &clause(alloc, text)?)
+}
+
+#[test]
+fn tidy_clauses(rt: HostRuntime) -> Result<(), Fail> {
+    let alloc = rt.alloc();
+    assert!(rt; tidied(alloc, b"p ?Y ?X|-q ?X|p ?Y ?X|p ?X ?Y")?.bytes() == b"(or (p ?X1 ?X2) (not (q ?X2)) (p ?X2 ?X1))".as_slice());
+    assert!(rt; tidied(alloc, b"p ?X2 ?X1")?.bytes() == b"(p ?X1 ?X2)".as_slice());
+    assert!(rt; tidied(alloc, b"p a")?.bytes() == b"(p a)".as_slice());
+    assert!(rt; proper(alloc, b"p ?X1|!answer ?X1")?);
+    assert!(rt; !proper(alloc, b"p ?X2")?);
+    assert!(rt; !proper(alloc, b"p a|p a")?);
+    assert!(rt; !proper(alloc, b"!answer a")?);
+    assert!(rt; !proper(alloc, b"?X1 a")?);
     Ok(())
 }
