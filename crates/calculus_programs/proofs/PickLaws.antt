@@ -1,5 +1,6 @@
 -- The rules in terms of the numbers of literals.
-use Rattle.std.proofs.Common.{◌≡◌, ℕ, zero, suc, ◌+◌, ◌<◌, ◌≤◌, List, [], ◌∷◌, ◌++◌, take, drop, length, get_or, Bool, true, false, Option, Some, None, sym, refl, ap, ap₂, ◌∙◌, arith, inl, inr, ◌⊎◌}
+use Rattle.std.proofs.Common.{◌≡◌, ℕ, zero, suc, ◌+◌, ◌<◌, ◌≤◌, List, [], ◌∷◌, ◌++◌, take, drop, length, get_or, Bool, true, false, Option, Some, None, sym, refl, ap, ap₂, ◌∙◌, arith, inl, inr, ◌⊎◌, append_assoc, Result, Ok, Err, IfOk}
+use Rattle.calculus_programs.specs.Picks.{exchanged}
 use Rattle.kif_tree.specs.declared.clause.Literal.{Literal}
 use Rattle.kif_tree.specs.Subst.{Filling}
 use Rattle.kif_tree.specs.Clauses.{Literals, bind_literal, bind_clause}
@@ -49,7 +50,7 @@ resolved_none left i f right j g (inl h) = ap (λ o. after o (right_of left f ri
 resolved_none left i f right j g (inr h) =
     ap (λ o. after (pick left i) (λ l. after o (λ r. given (resolves f g l.chosen r.chosen) (Some (bind_clause f (others l) ++ bind_clause g (others r)))))) (pick-none right j h) ∙ nowhere (pick left i)
 
-abbrev apart : Literals → ℕ → Literals
+abbrev pub apart : Literals → ℕ → Literals
 apart xs n = take n xs ++ drop (n + 1) xs
 
 pub resolved_at : (left : Literals) (i : ℕ) (f : Filling) (right : Literals) (j : ℕ) (g : Filling) (l r : Literal) → i < length left → j < length right → l ≡ get_or left i l → r ≡ get_or right j r
@@ -76,7 +77,7 @@ get-take (suc n) zero (x ∷ xs) d below h = refl
 get-take (suc n) (suc i) (x ∷ xs) d below h = get-take n i xs d (omega arith) (omega arith)
 
 -- the number names some literal
-some_item : {X : Type 0} (xs : List X) (n : ℕ) → n < length xs → (x : X) × (x ≡ get_or xs n x)
+pub some_item : {X : Type 0} (xs : List X) (n : ℕ) → n < length xs → (x : X) × (x ≡ get_or xs n x)
 some_item [] n h = absurd (omega arith)
 some_item (x ∷ xs) zero h = (x, refl)
 some_item {X = X} (x ∷ xs) (suc n) h = let rest = some_item xs n (omega arith) in (rest.0, rest.1)
@@ -96,3 +97,18 @@ factored_at clause i j f k d h below ek ed b is =
     ap (λ o. after o (λ d. after (pick d.before i) (λ k. given (merges f k.chosen d.chosen) (Some (bind_clause f (others d)))))) (pick-some clause j d h ed)
     ∙ ap (λ o. after o (λ k. given (merges f k.chosen d) (Some (bind_clause f (apart clause j))))) (pick-some (take j clause) i k in_front there)
     ∙ ap (λ (c : Bool). given c (Some (bind_clause f (apart clause j)))) (sym is)
+
+pub same_item : {X : Type 0} (xs : List X) (n : ℕ) (x y : X) → n < length xs → x ≡ get_or xs n x → y ≡ get_or xs n y → x ≡ y
+same_item [] n x y h ex ey = absurd (omega arith)
+same_item (z ∷ xs) zero x y h ex ey = ex ∙ sym ey
+same_item (z ∷ xs) (suc n) x y h ex ey = same_item xs n x y (omega arith) ex ey
+
+pub ok_map : {A E : Type 0} (r : Result A E) (P Q : A → Type 0) → ((a : A) → P a → Q a) → IfOk r P → IfOk r Q
+ok_map (Ok a) P Q f h = f a h
+ok_map (Err e) P Q f h = tt
+
+pub exchanged_is : (source : Literals) (i : ℕ) (f : Filling) (target : Literals) (j : ℕ) (g : Filling) (l : Literal)
+    → ((bind_clause f (apart source i) ++ bind_clause g (take j target)) ++ l ∷ []) ++ bind_clause g (drop (j + 1) target) ≡ exchanged source i f target j g l
+exchanged_is source i f target j g l =
+    append_assoc (bind_clause f (apart source i) ++ bind_clause g (take j target)) (l ∷ []) (bind_clause g (drop (j + 1) target))
+    ∙ append_assoc (bind_clause f (apart source i)) (bind_clause g (take j target)) (l ∷ bind_clause g (drop (j + 1) target))

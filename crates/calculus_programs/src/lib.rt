@@ -1,14 +1,30 @@
 //! A plain program for each definition of the calculus, on small inputs: tests compare other programs with these.
 #![tactic(auto)]
 
+mod equality;
+mod evidence_list;
+mod fillings;
+mod instances;
+mod opening;
 mod proper;
 mod refute;
+mod replacing;
 mod rules;
+mod steps;
+#[cfg(test)]
+mod tests;
 mod tidying;
 mod truth;
 
+pub use equality::is_equality_instance;
+pub use evidence_list::{Derived, evidence};
+pub use fillings::{follow, turn_back};
+pub use instances::{append_congruences, append_equalities, congruence, equal, replacing_instance, symmetry};
+pub use opening::{fill_frames, framed, open, plugged, sides};
 pub use proper::{has_word_heads, is_proper};
 pub use refute::refutes;
+pub use replacing::{Parent, replace};
 pub use rules::{factor, resolve};
+pub use steps::{clause_of, copy_clause, derive, nth, replacement_of, untidy};
 pub use tidying::{append_filled, is_tidy, same_clauses, tidy};
 pub use truth::{holds, is_true, satisfies, satisfies_all};

@@ -53,7 +53,8 @@ pub fn same_clauses(first: &[Literal], second: &[Literal]) -> bool
     true
 }
 
-fn without_repeats(alloc: Global, literals: &[Literal]) -> Result<Listed<Literal>, NoMemory>
+/// The literals without each that equals an earlier one.
+pub fn without_repeats(alloc: Global, literals: &[Literal]) -> Result<Listed<Literal>, NoMemory>
     ensures { IfOk result (λ kept. kept ≡ spec.without_repeats literals.now) }
 {
     let mut kept = Listed::new(alloc);
@@ -77,7 +78,8 @@ fn push_once(alloc: Global, kept: &mut Listed<Literal>, literal: &Literal) -> Re
     })
 }
 
-fn names_of(alloc: Global, literals: &[Literal]) -> Result<Listed<Text>, NoMemory>
+/// The variables of the literals in order of first occurrence, each once.
+pub fn names_of(alloc: Global, literals: &[Literal]) -> Result<Listed<Text>, NoMemory>
     ensures { IfOk result (λ names. names ≡ distinct (clause_variables literals.now)) }
 {
     let mut names = Listed::new(alloc);
@@ -87,7 +89,8 @@ fn names_of(alloc: Global, literals: &[Literal]) -> Result<Listed<Text>, NoMemor
     Ok(names)
 }
 
-fn numbered(alloc: Global, names: &[Text]) -> Result<Listed<Pair>, NoMemory>
+/// The names become X1, X2 and so on.
+pub fn numbered(alloc: Global, names: &[Text]) -> Result<Listed<Pair>, NoMemory>
     ensures { IfOk result (λ pairs. pairs ≡ spec.numbered 1 names.now) }
 {
     let mut pairs = Listed::new(alloc);
