@@ -2,7 +2,7 @@
 use Rattle.std.proofs.Common.{◌≡◌, List, [], ◌∷◌, map, Bool, true, false, not, ◌&&◌, ◌↔◌, refl, sym, ap, ap₂, ◌∙◌}
 use Rattle.std.specs.Bool.{IsTrue}
 use Rattle.std.specs.List.{list_all, list_any}
-use Rattle.kif_tree.specs.declared.form.Form.{Form, out-Form, roll-Form, para-Form, para-roll-Form}
+use Rattle.kif_tree.specs.declared.form.Form.{Form, para-Form, para-roll-Form}
 use Rattle.kif_tree.specs.declared.form.Form.TheVariants as form
 use Rattle.kif_tree.specs.declared.form.Form.TheOpen.{Form-F}
 use Rattle.kif_tree.specs.declared.clause.Literal.{Literal}

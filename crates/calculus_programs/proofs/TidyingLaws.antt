@@ -1,5 +1,5 @@
 -- One more literal, name or pair at the step of a loop.
-use Rattle.std.proofs.Common.{◌≡◌, ℕ, ◌+◌, ◌<◌, ◌^◌, List, [], ◌∷◌, ◌++◌, map, take, length, get_or, filter, Bool, true, false, not, ◌||◌, if◌then◌else◌, refl, sym, ap, ap₂, ◌∙◌, append_assoc, arith}
+use Rattle.std.proofs.Common.{◌≡◌, ℕ, ◌+◌, ◌<◌, List, [], ◌∷◌, ◌++◌, take, length, get_or, filter, Bool, true, false, not, ◌||◌, if◌then◌else◌, refl, sym, ap, ap₂, ◌∙◌, arith}
 use Rattle.std.specs.List.{list_any}
 use Rattle.std.proofs.lemmas.List.{take_more, map_more, length-take-le}
 use Rattle.std.proofs.lemmas.List.Elements.{filter-append}
@@ -7,10 +7,9 @@ use Rattle.kif_tree.specs.declared.form.Form.{Form}
 use Rattle.kif_tree.specs.declared.form.Form.TheVariants as form
 use Rattle.kif_tree.specs.declared.clause.Literal.{Literal}
 use Rattle.kif_tree.specs.declared.subst.Pair.{Pair}
-use Rattle.kif_tree.specs.Terms.{Bytes, variables, joined_once}
+use Rattle.kif_tree.specs.Terms.{Bytes}
 use Rattle.kif_tree.specs.Subst.{Filling, bind}
-use Rattle.kif_tree.specs.Clauses.{Literals, bind_literal, bind_clause, clause_variables, same_literal}
-use Rattle.kif_tree.proofs.VariableLaws.{joined_once-append}
+use Rattle.kif_tree.specs.Clauses.{Literals, bind_literal, bind_clause, same_literal}
 use Rattle.calculus.specs.Tidy.{new_name, numbered, without_repeats}
 use Rattle.calculus.proofs.TruthLaws.{literals}
 

@@ -4,8 +4,8 @@ ghost use Rattle.kif_tree.specs.Subst.{lookup, value_of, via};
 ghost use Rattle.calculus.specs.Tidy.{turned_back};
 ghost use Rattle.calculus_programs.specs.Pairs.{fill_pair};
 
-use crate::tidying::{names_of, numbered, without_repeats};
-use kif_tree::{Literal, Pair, Subst, Unnamed, fill};
+use crate::tidying::{numbered, without_repeats};
+use kif_tree::{Literal, Pair, Subst, Unnamed, fill, variables_in};
 use sigma_base::{Listed, NoMemory};
 use std::alloc::Global;
 
@@ -18,7 +18,7 @@ pub fn turn_back(
     ensures { IfOk result (λ pairs. value_of pairs ≡ turned_back conclusion.now (value_of filling.now)) }
 {
     let kept = without_repeats(alloc, conclusion)?;
-    let names = names_of(alloc, kept.items())?;
+    let names = variables_in(alloc, kept.items())?;
     let renaming = numbered(alloc, names.items())?;
     fill_pairs(alloc, renaming.items(), filling)
 }
@@ -32,11 +32,7 @@ pub fn follow(alloc: Global, first: &Subst, then: &[Pair]) -> Result<Listed<Pair
     Ok(pairs)
 }
 
-fn fill_pairs(
-    alloc: Global,
-    pairs: &[Pair],
-    filling: &[Pair],
-) -> Result<Listed<Pair>, NoMemory>
+fn fill_pairs(alloc: Global, pairs: &[Pair], filling: &[Pair]) -> Result<Listed<Pair>, NoMemory>
     ensures { IfOk result (λ filled. filled ≡ map (fill_pair (value_of filling.now)) pairs.now) }
 {
     let mut filled = Listed::new(alloc);

@@ -6,9 +6,7 @@ ghost use Rattle.kif_tree.specs.Subst.{filling_of};
 ghost use Rattle.kif_tree.specs.Clauses.{bind_clause, clause_variables, same_literal};
 ghost use Rattle.calculus.specs.Tidy as spec;
 
-use kif_tree::{
-    Clause, Form, Literal, Pair, Text, Unnamed, append_variables, fill, literals_equal,
-};
+use kif_tree::{Clause, Form, Literal, Pair, Text, Unnamed, fill, literals_equal, variables_in};
 use sigma_base::{Listed, NoMemory};
 use std::alloc::Global;
 
@@ -17,7 +15,7 @@ pub fn tidy(alloc: Global, clause: &Clause) -> Result<Clause, NoMemory>
     ensures { IfOk result (λ answer. answer ≡ spec.tidy clause.now) }
 {
     let kept = without_repeats(alloc, clause.literals.items())?;
-    let names = names_of(alloc, kept.items())?;
+    let names = variables_in(alloc, kept.items())?;
     let pairs = numbered(alloc, names.items())?;
     let mut literals = Listed::new(alloc);
     append_filled(
@@ -76,17 +74,6 @@ fn push_once(alloc: Global, kept: &mut Listed<Literal>, literal: &Literal) -> Re
         positive: literal.positive,
         atom: literal.atom.copy(alloc)?,
     })
-}
-
-/// The variables of the literals in order of first occurrence, each once.
-pub fn names_of(alloc: Global, literals: &[Literal]) -> Result<Listed<Text>, NoMemory>
-    ensures { IfOk result (λ names. names ≡ distinct (clause_variables literals.now)) }
-{
-    let mut names = Listed::new(alloc);
-    for literal in literals {
-        append_variables(alloc, &mut names, &literal.atom)?;
-    }
-    Ok(names)
 }
 
 /// The names become X1, X2 and so on.
