@@ -2,7 +2,6 @@
 use Rattle.std.proofs.Common.{◌≡◌, ℕ, zero, suc, ◌+◌, List, [], ◌∷◌, ◌++◌, map, take, length, nat_le, Bool, true, false, ◌&&◌, if◌then◌else◌, Option, Some, None, inl, inr, codes, refl, sym, ap, ap₂, ◌∙◌, subst, arith}
 use Rattle.std.specs.Prelude.{slice_get, MatchOption, MatchBool}
 use Rattle.std.specs.List.{list_all}
-use Rattle.std.specs.Io.KnownBytes.{append_known}
 use Rattle.sigma_base.specs.Lists.{Each, each_append, each_map}
 use Rattle.kif_tree.specs.declared.form.Form.{Form, out-Form}
 use Rattle.kif_tree.specs.declared.form.Form.TheVariants as form
@@ -31,8 +30,8 @@ use Rattle.calculus.proofs.QueryLaws.{query_evidence}
 use Rattle.sigma_app.specs.declared.page.ProofLine.{ProofLine}
 use Rattle.sigma_app.specs.Words.{Asked, asked}
 use Rattle.sigma_app.specs.Proof.{unit_clause, asked_clause, query_clause, values, answer_clause, lines_of}
-use Rattle.sigma_app.specs.Tool.{Is, OnBody, OnFile, GivesTool, Agrees, IsRead, Shows, ShowsAnswer, not_built, usage, Tool}
-use Rattle.sigma_app.specs.Evidence.{input_of_fact, input_of_query, search_inputs, clauses_of, line_of, ShowSteps, Part, Holds, one_part, IsProof, ShowsProof}
+use Rattle.sigma_app.specs.Tool.{Is, OnBody, OnFile, IsRead, Shows, ShowsAnswer, not_built, usage, Tool}
+use Rattle.sigma_app.specs.Evidence.{input_of_fact, input_of_query, search_inputs, clauses_of, line_of, ShowSteps, Holds, one_part, IsProof, ShowsProof}
 use Rattle.sigma_app.proofs.ProofLaws.{renamed_values, ground_rowless, each_distinct, ground_values, ground_terms, clean-answer, answer-answers, bind-answer, query_clause-is, old_names, resolution, resolution-concludes, filled_ground, map-variables}
 
 -- ---- items by their numbers

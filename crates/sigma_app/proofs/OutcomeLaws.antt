@@ -1,5 +1,5 @@
 -- Why the tool gives one status and one text for the same words and files.
-use Rattle.std.proofs.Common.{◌≡◌, ℕ, ◌<◌, List, [], ◌∷◌, ◌++◌, map, length, Bool, true, false, not, Option, Some, None, nat_le, codes, ◌⊎◌, inl, inr, refl, sym, ap, ap₂, ◌∙◌, subst, arith}
+use Rattle.std.proofs.Common.{◌≡◌, ℕ, ◌<◌, List, [], ◌∷◌, ◌++◌, length, Bool, true, false, not, Option, Some, None, nat_le, codes, inl, inr, sym, ap, ap₂, ◌∙◌, subst, arith}
 use Rattle.std.specs.Prelude.{slice_get, MatchOption, MatchBool}
 use Rattle.std.specs.Str.{bytes_eq}
 use Rattle.std.proofs.lemmas.Bool.Decides.{nat_tests}
@@ -14,10 +14,10 @@ use Rattle.sig_io.specs.Told.{body_of}
 use Rattle.kif_reader.specs.Plain.{ReadsFacts, located, forms_of}
 use Rattle.kif_reader.proofs.PlainLaws.{facts_are_one, goal_is_one}
 use Rattle.sigma_app.specs.Words.{Asked, asked}
-use Rattle.sigma_app.specs.Matching.{Fits, IsFirstMatch, HasNoMatchIn, value_pair, binding}
+use Rattle.sigma_app.specs.Matching.{Fits, IsFirstMatch, value_pair, binding}
 use Rattle.sigma_app.specs.Proof.{values, lines_of}
 use Rattle.sigma_app.specs.Page.{answer_text, end_text}
-use Rattle.sigma_app.specs.Tool.{Is, IsRead, Shows, ShowsAnswer, ShowsNone, Replies, Declines, OnBody, OnFile, Tool, found_page, load_names, usage, not_built}
+use Rattle.sigma_app.specs.Tool.{Is, Shows, OnBody, OnFile, Tool, found_page, load_names, usage, not_built}
 
 abbrev SameOutcome : ℕ → ℕ → Bytes → Bytes → Type 0
 SameOutcome status other text page = (status ≡ other) × (text ≡ page)
