@@ -1,13 +1,13 @@
 -- Places and sides of forms as the code reads them.
-use Rattle.std.proofs.Common.{◌≡◌, ℕ, zero, suc, ◌+◌, ◌-◌, ◌<◌, ◌≤◌, List, [], ◌∷◌, ◌++◌, take, drop, length, get_or, Bool, true, false, Option, Some, None, codes, sym, refl, ap, ap₂, ◌∙◌, arith}
-use Rattle.kif_tree.specs.declared.form.Form.{Form, out-Form, roll-Form, roll-out-Form}
+use Rattle.std.proofs.Common.{◌≡◌, ℕ, zero, suc, ◌+◌, ◌-◌, ◌<◌, ◌≤◌, List, [], ◌∷◌, take, drop, length, get_or, Bool, true, false, Option, Some, None, codes, sym, refl, ap, ap₂, ◌∙◌, arith}
+use Rattle.kif_tree.specs.declared.form.Form.{Form, out-Form}
 use Rattle.kif_tree.specs.declared.form.Form.TheVariants as form
 use Rattle.kif_tree.specs.declared.form.Form.TheOpen.{Form-F}
 use Rattle.kif_tree.specs.Terms.{Bytes}
 use Rattle.kif_tree.specs.FormLaws.{induction}
 use Rattle.kif_tree.specs.declared.clause.Literal.{Literal}
 use Rattle.kif_tree.specs.Subst.{Filling}
-use Rattle.kif_tree.specs.Clauses.{Literals, is_word, heads_layer, is_headed}
+use Rattle.kif_tree.specs.Clauses.{Literals, heads_layer, is_headed}
 use Rattle.calculus.specs.declared.places.Replaced.{Replaced}
 use Rattle.calculus.specs.declared.places.Frame.{Frame}
 use Rattle.calculus.specs.declared.places.Opened.{Opened}

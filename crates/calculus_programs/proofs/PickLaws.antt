@@ -1,5 +1,5 @@
 -- The rules in terms of the numbers of literals.
-use Rattle.std.proofs.Common.{◌≡◌, ℕ, zero, suc, ◌+◌, ◌<◌, ◌≤◌, List, [], ◌∷◌, ◌++◌, take, drop, length, get_or, Bool, true, false, Option, Some, None, sym, refl, ap, ap₂, ◌∙◌, arith, inl, inr, ◌⊎◌, append_assoc, Result, Ok, Err, IfOk}
+use Rattle.std.proofs.Common.{◌≡◌, ℕ, zero, suc, ◌+◌, ◌<◌, ◌≤◌, List, [], ◌∷◌, ◌++◌, take, drop, length, get_or, Bool, Option, Some, None, sym, refl, ap, ap₂, ◌∙◌, arith, inl, inr, ◌⊎◌, append_assoc, Result, Ok, Err, IfOk}
 use Rattle.calculus_programs.specs.Picks.{exchanged}
 use Rattle.kif_tree.specs.declared.clause.Literal.{Literal}
 use Rattle.kif_tree.specs.Subst.{Filling}

@@ -2,7 +2,7 @@
 use Rattle.std.proofs.Common.{◌≡◌, List, [], ◌∷◌, map, Bool, true, false, not, ◌&&◌, ◌↔◌, refl, sym, ap, ap₂, ◌∙◌}
 use Rattle.std.specs.Bool.{IsTrue}
 use Rattle.std.specs.List.{list_all, list_any}
-use Rattle.kif_tree.specs.declared.form.Form.{Form, out-Form, roll-Form, para-Form, para-roll-Form}
+use Rattle.kif_tree.specs.declared.form.Form.{Form, para-Form, para-roll-Form}
 use Rattle.kif_tree.specs.declared.form.Form.TheVariants as form
 use Rattle.kif_tree.specs.declared.form.Form.TheOpen.{Form-F}
 use Rattle.kif_tree.specs.declared.clause.Literal.{Literal}
@@ -108,10 +108,10 @@ each_fits (l ∷ ls) h k r =
 pub proper_by_tests : (tidy : Bool) (c : Literals) → IsTrue tidy ↔ IsTidy c
     → IsTrue ((tidy && list_any (λ (literal : Literal). not (is_answer literal.atom)) c) && list_all (λ (literal : Literal). fits literal.atom) c) ↔ IsProper c
 proper_by_tests tidy c decides = (
-      (λ h.
+  (λ h.
       let outer = both (tidy && list_any (λ (literal : Literal). not (is_answer literal.atom)) c) (list_all (λ (literal : Literal). fits literal.atom) c) h in
       let inner = both tidy (list_any (λ (literal : Literal). not (is_answer literal.atom)) c) outer.0 in
       let rest = fits_each c outer.1 in
       record { is_tidy = decides.0 inner.0; asserts = inner.1; lists = rest.lists; headed = rest.headed; rowless = rest.rowless }),
-      (λ p. ap₂ ◌&&◌ (ap₂ ◌&&◌ (decides.1 p.is_tidy) p.asserts) (each_fits c p.lists p.headed p.rowless)),
-    )
+  (λ p. ap₂ ◌&&◌ (ap₂ ◌&&◌ (decides.1 p.is_tidy) p.asserts) (each_fits c p.lists p.headed p.rowless)),
+)

@@ -1,22 +1,21 @@
 -- The tests of the shapes of instances of equality decide them.
-use Rattle.std.proofs.Common.{◌≡◌, ℕ, List, [], ◌∷◌, ◌++◌, Bool, true, false, not, ◌&&◌, ◌||◌, ◌↔◌, Option, Some, None, codes, refl, sym, ap, ap₂, ◌∙◌, inl, inr, ◌⊎◌, subst}
+use Rattle.std.proofs.Common.{◌≡◌, List, [], ◌∷◌, ◌++◌, Bool, true, false, not, ◌&&◌, ◌||◌, ◌↔◌, Option, Some, None, codes, refl, sym, ap, ap₂, ◌∙◌, inl, inr, ◌⊎◌}
 use Rattle.std.specs.Bool.{IsTrue}
-use Rattle.std.proofs.lemmas.Slice.Eq.{bytes_eq-Decides}
 use Rattle.kif_tree.specs.declared.form.Form.{Form, out-Form, roll-Form, roll-out-Form}
 use Rattle.kif_tree.specs.declared.form.Form.TheVariants as form
 use Rattle.kif_tree.specs.declared.form.Form.TheOpen.{Form-F}
 use Rattle.kif_tree.specs.declared.clause.Literal.{Literal}
-use Rattle.kif_tree.specs.Terms.{Bytes, same}
+use Rattle.kif_tree.specs.Terms.{same}
 use Rattle.kif_tree.specs.SameLaws.{same-Decides}
 use Rattle.kif_tree.specs.FormLaws.{induction}
 use Rattle.kif_tree.specs.Clauses.{Literals, is_word, same_sign}
 use Rattle.calculus.specs.declared.places.Frame.{Frame}
 use Rattle.calculus.specs.declared.places.Sides.{Sides}
-use Rattle.calculus.specs.Rules.{given, framed, sides, sides_in, sides_of}
+use Rattle.calculus.specs.Rules.{given, framed, sides, sides_in}
 use Rattle.calculus.specs.Closed.{ground_clause}
-use Rattle.calculus.specs.Equality.{yes, no, equal, reflexivity, symmetry, transitivity, congruence, replacing, IsReflexive, IsSymmetric, IsTransitive, IsCongruent, IsReplacing, IsEqualityInstance}
+use Rattle.calculus.specs.Equality.{yes, no, equal, IsReflexive, IsSymmetric, IsTransitive, IsCongruent, IsReplacing, IsEqualityInstance}
 use Rattle.calculus.proofs.TruthLaws.{both, false_true, negated, signs}
-use Rattle.calculus.proofs.PlaceLaws.{allowed, sides-whole, some_same}
+use Rattle.calculus.proofs.PlaceLaws.{allowed, sides-whole}
 use Rattle.calculus.proofs.MemberLaws.{later}
 use Rattle.calculus_programs.specs.Shapes.{told, all_same, swaps, parts_swap, parts_in, parts_of, swapped, signed_sides, reflexive_test, symmetric_test, pair_test, transitive_test, chain_test, replacing_test, triple_test, shape_test}
 
@@ -291,9 +290,9 @@ shape-there c (inr (inr (inr (inr s)))) =
 
 pub equality_by_tests : (c : Literals) → ground_clause c ≡ true → IsTrue (shape_test c) ↔ IsEqualityInstance c
 equality_by_tests c is_ground_here = (
-      (λ h. record { is_closed = is_ground_here; shape = shape-sound c h }),
-      (λ i. shape-there c i.shape),
-    )
+  (λ h. record { is_closed = is_ground_here; shape = shape-sound c h }),
+  (λ i. shape-there c i.shape),
+)
 
 pub not_closed : (c : Literals) → ground_clause c ≡ false → IsTrue false ↔ IsEqualityInstance c
 not_closed c open_here = ((λ h. absurd (false_true h)), (λ i. absurd (false_true (sym open_here ∙ i.is_closed))))

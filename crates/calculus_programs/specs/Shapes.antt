@@ -7,7 +7,6 @@ use Rattle.kif_tree.specs.Terms.{same}
 use Rattle.kif_tree.specs.Clauses.{Literals, same_sign}
 use Rattle.calculus.specs.declared.places.Sides.{Sides}
 use Rattle.calculus.specs.Rules.{given, sides}
-use Rattle.calculus.specs.Closed.{ground_clause}
 
 -- something is there and passes the test
 abbrev pub told : {A : Type 0} → Option A → (A → Bool) → Bool

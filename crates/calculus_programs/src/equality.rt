@@ -41,11 +41,7 @@ fn has_shape(alloc: Global, literals: &[Literal]) -> Result<bool, NoMemory>
     }
 }
 
-fn signed_sides(
-    alloc: Global,
-    positive: bool,
-    literal: &Literal,
-) -> Result<Option<Sides>, NoMemory>
+fn signed_sides(alloc: Global, positive: bool, literal: &Literal) -> Result<Option<Sides>, NoMemory>
     ensures { IfOk result (λ answer. answer ≡ spec.signed_sides positive literal.now) }
 {
     if literal.positive != positive {
@@ -78,13 +74,15 @@ fn follows(alloc: Global, premise: &Sides, literal: &Literal) -> Result<bool, No
     let Some(conclusion) = signed_sides(alloc, true, literal)? else {
         return Ok(false);
     };
-    Ok(symmetric(premise, &conclusion)
-        || swapped(
-            &premise.left,
-            &premise.right,
-            &conclusion.left,
-            &conclusion.right,
-        ))
+    Ok(
+        symmetric(premise, &conclusion)
+            || swapped(
+                &premise.left,
+                &premise.right,
+                &conclusion.left,
+                &conclusion.right,
+            ),
+    )
 }
 
 fn symmetric(premise: &Sides, conclusion: &Sides) -> bool
@@ -130,20 +128,17 @@ fn chains(
     ends(alloc, premise, &middle, third)
 }
 
-fn ends(
-    alloc: Global,
-    premise: &Sides,
-    middle: &Sides,
-    third: &Literal,
-) -> Result<bool, NoMemory>
+fn ends(alloc: Global, premise: &Sides, middle: &Sides, third: &Literal) -> Result<bool, NoMemory>
     ensures { IfOk result (λ answer. answer ≡ spec.told (spec.signed_sides true third.now) (spec.transitive_test premise.now middle.now)) }
 {
     let Some(last) = signed_sides(alloc, true, third)? else {
         return Ok(false);
     };
-    Ok(forms_equal(&middle.left, &premise.right)
-        && forms_equal(&last.left, &premise.left)
-        && forms_equal(&last.right, &middle.right))
+    Ok(
+        forms_equal(&middle.left, &premise.right)
+            && forms_equal(&last.left, &premise.left)
+            && forms_equal(&last.right, &middle.right),
+    )
 }
 
 /// Whether the two are lists with one head whose arguments are the same but for one place, where the first has a and the

@@ -32,11 +32,7 @@ pub fn follow(alloc: Global, first: &Subst, then: &[Pair]) -> Result<Listed<Pair
     Ok(pairs)
 }
 
-fn fill_pairs(
-    alloc: Global,
-    pairs: &[Pair],
-    filling: &[Pair],
-) -> Result<Listed<Pair>, NoMemory>
+fn fill_pairs(alloc: Global, pairs: &[Pair], filling: &[Pair]) -> Result<Listed<Pair>, NoMemory>
     ensures { IfOk result (λ filled. filled ≡ map (fill_pair (value_of filling.now)) pairs.now) }
 {
     let mut filled = Listed::new(alloc);

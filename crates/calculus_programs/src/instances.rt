@@ -22,11 +22,7 @@ pub fn equal(alloc: Global, left: &Form, right: &Form) -> Result<Form, NoMemory>
     Ok(Form::List(parts))
 }
 
-fn push_literal(
-    literals: &mut Listed<Literal>,
-    positive: bool,
-    atom: Form,
-) -> Result<(), NoMemory>
+fn push_literal(literals: &mut Listed<Literal>, positive: bool, atom: Form) -> Result<(), NoMemory>
     ensures { OnOk result (literals.new ≡ literals.old ++ record { positive = positive; atom = atom } ∷ []) }
 {
     literals.push(Literal { positive, atom })

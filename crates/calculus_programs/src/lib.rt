@@ -19,7 +19,9 @@ mod truth;
 pub use equality::is_equality_instance;
 pub use evidence_list::{Derived, evidence};
 pub use fillings::{follow, turn_back};
-pub use instances::{append_congruences, append_equalities, congruence, equal, replacing_instance, symmetry};
+pub use instances::{
+    append_congruences, append_equalities, congruence, equal, replacing_instance, symmetry,
+};
 pub use opening::{fill_frames, framed, open, plugged, sides};
 pub use proper::{has_word_heads, is_proper};
 pub use refute::refutes;

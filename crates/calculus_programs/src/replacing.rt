@@ -78,9 +78,7 @@ fn replaced_by(
     if !may_replace(alloc, source, flipped, equality, target, place)? {
         return Ok(None);
     }
-    Ok(Some(replacement(
-        alloc, source, flipped, equality, target, place,
-    )?))
+    Ok(Some(replacement(alloc, source, flipped, equality, target, place)?))
 }
 
 fn may_replace(
@@ -149,13 +147,21 @@ fn is_variable(form: &Form) -> bool
 fn from_side(flipped: bool, equality: &Sides) -> &Form
     ensures { result.now ≡ rules.from_side flipped equality.now }
 {
-    if flipped { &equality.right } else { &equality.left }
+    if flipped {
+        &equality.right
+    } else {
+        &equality.left
+    }
 }
 
 fn to_side(flipped: bool, equality: &Sides) -> &Form
     ensures { result.now ≡ rules.to_side flipped equality.now }
 {
-    if flipped { &equality.left } else { &equality.right }
+    if flipped {
+        &equality.left
+    } else {
+        &equality.right
+    }
 }
 
 fn replacement(
@@ -199,11 +205,29 @@ fn conclude(
     let pairs = target.subst.pairs.items();
     let at = target.at;
     let mut conclusion = Listed::new(alloc);
-    append_others(alloc, &mut conclusion, source.literals, source.at, source.subst)?;
-    append_filled(alloc, &mut conclusion, &target.literals[..at], pairs, Unnamed::Stays)?;
+    append_others(
+        alloc,
+        &mut conclusion,
+        source.literals,
+        source.at,
+        source.subst,
+    )?;
+    append_filled(
+        alloc,
+        &mut conclusion,
+        &target.literals[..at],
+        pairs,
+        Unnamed::Stays,
+    )?;
     let positive = target.literals[at].positive;
     conclusion.push(changed(alloc, positive, frames, to, source.subst)?)?;
-    append_filled(alloc, &mut conclusion, &target.literals[at + 1..], pairs, Unnamed::Stays)?;
+    append_filled(
+        alloc,
+        &mut conclusion,
+        &target.literals[at + 1..],
+        pairs,
+        Unnamed::Stays,
+    )?;
     Ok(conclusion)
 }
 

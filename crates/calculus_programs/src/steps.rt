@@ -122,12 +122,14 @@ pub fn untidy(
 fn conclusion_of(made: Option<Replaced>) -> Option<Listed<Literal>>
     ensures { result ≡ rules.after made (λ replaced. Some replaced.conclusion) }
 {
-    let Some(Replaced {
-        conclusion,
-        left,
-        right,
-        frames,
-    }) = made
+    let Some(
+        Replaced {
+            conclusion,
+            left,
+            right,
+            frames,
+        },
+    ) = made
     else {
         return None;
     };

@@ -142,11 +142,7 @@ fn printed(alloc: Global, list: &[Clause]) -> Result<Text, NoMemory> {
 }
 
 /// The clauses of the steps after the inputs, printed, or nothing where some step isn't allowed.
-fn derived(
-    alloc: Global,
-    inputs: &Listed<Clause>,
-    steps: &Listed<Step>,
-) -> Result<Text, NoMemory> {
+fn derived(alloc: Global, inputs: &Listed<Clause>, steps: &Listed<Step>) -> Result<Text, NoMemory> {
     let Some(list) = derive(alloc, inputs.items(), steps.items())? else {
         return Ok(Text::new(alloc));
     };
@@ -209,7 +205,10 @@ fn mortal_is_derived(rt: HostRuntime) -> Result<(), Fail> {
     let inputs = mortal_inputs(alloc)?;
     let steps = mortal_steps(alloc)?;
     let text = derived(alloc, &inputs, &steps)?;
-    assert!(rt; text.bytes() == b"(or (not (subclass ?X1 Mortal)) (not (instance ?X2 ?X1)) (!answer ?X2))\n(or (not (instance ?X1 Human)) (!answer ?X1))\n(!answer Socrates)\n".as_slice());
+    assert!(rt;
+        text.bytes()
+            == b"(or (not (subclass ?X1 Mortal)) (not (instance ?X2 ?X1)) (!answer ?X2))\n(or (not (instance ?X1 Human)) (!answer ?X1))\n(!answer Socrates)\n".as_slice()
+    );
     Ok(())
 }
 
@@ -220,7 +219,10 @@ fn mortal_has_evidence(rt: HostRuntime) -> Result<(), Fail> {
     let steps = mortal_steps(alloc)?;
     let list = last_evidence(alloc, &inputs, &steps)?;
     let text = printed(alloc, list.items())?;
-    assert!(rt; text.bytes() == b"(instance Socrates Human)\n(subclass Human Mortal)\n(or (not (subclass Human Mortal)) (not (instance Socrates Human)) (instance Socrates Mortal))\n(not (instance Socrates Mortal))\n".as_slice());
+    assert!(rt;
+        text.bytes()
+            == b"(instance Socrates Human)\n(subclass Human Mortal)\n(or (not (subclass Human Mortal)) (not (instance Socrates Human)) (instance Socrates Mortal))\n(not (instance Socrates Mortal))\n".as_slice()
+    );
     assert!(rt; refutes(alloc, list.items())?);
     Ok(())
 }
@@ -228,10 +230,30 @@ fn mortal_has_evidence(rt: HostRuntime) -> Result<(), Fail> {
 #[test]
 fn mortal_needs_each_input(rt: HostRuntime) -> Result<(), Fail> {
     let alloc = rt.alloc();
-    assert!(rt; !refuted(alloc, b"instance Socrates Human;-subclass Human Mortal|-instance Socrates Human|instance Socrates Mortal;-instance Socrates Mortal")?);
-    assert!(rt; !refuted(alloc, b"subclass Human Mortal;-subclass Human Mortal|-instance Socrates Human|instance Socrates Mortal;-instance Socrates Mortal")?);
-    assert!(rt; !refuted(alloc, b"subclass Human Mortal;instance Socrates Human;-instance Socrates Mortal")?);
-    assert!(rt; !refuted(alloc, b"subclass Human Mortal;instance Socrates Human;-subclass Human Mortal|-instance Socrates Human|instance Socrates Mortal")?);
+    assert!(rt;
+        !refuted(
+            alloc,
+            b"instance Socrates Human;-subclass Human Mortal|-instance Socrates Human|instance Socrates Mortal;-instance Socrates Mortal"
+        )?
+    );
+    assert!(rt;
+        !refuted(
+            alloc,
+            b"subclass Human Mortal;-subclass Human Mortal|-instance Socrates Human|instance Socrates Mortal;-instance Socrates Mortal"
+        )?
+    );
+    assert!(rt;
+        !refuted(
+            alloc,
+            b"subclass Human Mortal;instance Socrates Human;-instance Socrates Mortal"
+        )?
+    );
+    assert!(rt;
+        !refuted(
+            alloc,
+            b"subclass Human Mortal;instance Socrates Human;-subclass Human Mortal|-instance Socrates Human|instance Socrates Mortal"
+        )?
+    );
     Ok(())
 }
 
@@ -267,7 +289,9 @@ fn either_answers(rt: HostRuntime) -> Result<(), Fail> {
     let inputs = clauses(alloc, b"p a|p b;-p ?X1|!answer ?X1")?;
     let steps = either_steps(alloc)?;
     let text = derived(alloc, &inputs, &steps)?;
-    assert!(rt; text.bytes() == b"(or (p b) (!answer a))\n(or (!answer a) (!answer b))\n".as_slice());
+    assert!(rt;
+        text.bytes() == b"(or (p b) (!answer a))\n(or (!answer a) (!answer b))\n".as_slice()
+    );
     let list = last_evidence(alloc, &inputs, &steps)?;
     let text = printed(alloc, list.items())?;
     assert!(rt; text.bytes() == b"(or (p a) (p b))\n(not (p a))\n(not (p b))\n".as_slice());
@@ -294,7 +318,9 @@ fn contradiction_by_factoring(rt: HostRuntime) -> Result<(), Fail> {
     assert!(rt; text.bytes() == b"(p ?X1)\n(not (p ?X1))\nfalse\n".as_slice());
     let list = last_evidence(alloc, &inputs, &steps)?;
     let text = printed(alloc, list.items())?;
-    assert!(rt; text.bytes() == b"(or (p !any) (p !any))\n(or (not (p !any)) (not (p !any)))\n".as_slice());
+    assert!(rt;
+        text.bytes() == b"(or (p !any) (p !any))\n(or (not (p !any)) (not (p !any)))\n".as_slice()
+    );
     assert!(rt; refutes(alloc, list.items())?);
     Ok(())
 }
@@ -339,7 +365,10 @@ fn equality_has_evidence(rt: HostRuntime) -> Result<(), Fail> {
     let steps = equality_steps(alloc, 1)?;
     let list = last_evidence(alloc, &inputs, &steps)?;
     let text = printed(alloc, list.items())?;
-    assert!(rt; text.bytes() == b"(p a)\n(equal a b)\n(not (p b))\n(or (not (equal a b)) (equal b a))\n(or (not (equal a b)) (not (p a)) (p b))\n(or (not (equal b a)) (not (p b)) (p a))\n".as_slice());
+    assert!(rt;
+        text.bytes()
+            == b"(p a)\n(equal a b)\n(not (p b))\n(or (not (equal a b)) (equal b a))\n(or (not (equal a b)) (not (p a)) (p b))\n(or (not (equal b a)) (not (p b)) (p a))\n".as_slice()
+    );
     assert!(rt; refutes(alloc, list.items())?);
     Ok(())
 }
@@ -348,8 +377,18 @@ fn equality_has_evidence(rt: HostRuntime) -> Result<(), Fail> {
 fn equality_needs_the_congruence(rt: HostRuntime) -> Result<(), Fail> {
     let alloc = rt.alloc();
     assert!(rt; refuted(alloc, b"p a;equal a b;-p b;-equal a b|-p a|p b")?);
-    assert!(rt; !refuted(alloc, b"p a;equal a b;-p b;-equal a b|equal b a;-equal b a|-p b|p a")?);
-    assert!(rt; !refuted(alloc, b"p a;-p b;-equal a b|equal b a;-equal a b|-p a|p b;-equal b a|-p b|p a")?);
+    assert!(rt;
+        !refuted(
+            alloc,
+            b"p a;equal a b;-p b;-equal a b|equal b a;-equal b a|-p b|p a"
+        )?
+    );
+    assert!(rt;
+        !refuted(
+            alloc,
+            b"p a;-p b;-equal a b|equal b a;-equal a b|-p a|p b;-equal b a|-p b|p a"
+        )?
+    );
     Ok(())
 }
 
@@ -469,7 +508,10 @@ fn replacement_at_depth(rt: HostRuntime) -> Result<(), Fail> {
     assert!(rt; derived(alloc, &inputs, &steps)?.bytes() == b"(p (f c b))\n".as_slice());
     let list = last_evidence(alloc, &inputs, &steps)?;
     let text = printed(alloc, list.items())?;
-    assert!(rt; text.bytes() == b"(equal a b)\n(p (f c a))\n(or (not (equal a b)) (equal b a))\n(or (not (equal a b)) (equal (f c a) (f c b)))\n(or (not (equal b a)) (equal (f c b) (f c a)))\n(or (not (equal (f c a) (f c b))) (not (p (f c a))) (p (f c b)))\n(or (not (equal (f c b) (f c a))) (not (p (f c b))) (p (f c a)))\n".as_slice());
+    assert!(rt;
+        text.bytes()
+            == b"(equal a b)\n(p (f c a))\n(or (not (equal a b)) (equal b a))\n(or (not (equal a b)) (equal (f c a) (f c b)))\n(or (not (equal b a)) (equal (f c b) (f c a)))\n(or (not (equal (f c a) (f c b))) (not (p (f c a))) (p (f c b)))\n(or (not (equal (f c b) (f c a))) (not (p (f c b))) (p (f c a)))\n".as_slice()
+    );
     Ok(())
 }
 
@@ -488,7 +530,10 @@ fn proper(alloc: Global, text: &[u8]) -> Result<bool, NoMemory> {
 #[test]
 fn tidy_clauses(rt: HostRuntime) -> Result<(), Fail> {
     let alloc = rt.alloc();
-    assert!(rt; tidied(alloc, b"p ?Y ?X|-q ?X|p ?Y ?X|p ?X ?Y")?.bytes() == b"(or (p ?X1 ?X2) (not (q ?X2)) (p ?X2 ?X1))".as_slice());
+    assert!(rt;
+        tidied(alloc, b"p ?Y ?X|-q ?X|p ?Y ?X|p ?X ?Y")?.bytes()
+            == b"(or (p ?X1 ?X2) (not (q ?X2)) (p ?X2 ?X1))".as_slice()
+    );
     assert!(rt; tidied(alloc, b"p ?X2 ?X1")?.bytes() == b"(p ?X1 ?X2)".as_slice());
     assert!(rt; tidied(alloc, b"p a")?.bytes() == b"(p a)".as_slice());
     assert!(rt; proper(alloc, b"p ?X1|!answer ?X1")?);

@@ -6,7 +6,9 @@ ghost use Rattle.kif_tree.specs.Subst.{filling_of};
 ghost use Rattle.kif_tree.specs.Clauses.{bind_clause, clause_variables, same_literal};
 ghost use Rattle.calculus.specs.Tidy as spec;
 
-use kif_tree::{Clause, Form, Literal, Pair, Text, Unnamed, append_variables, fill, literals_equal};
+use kif_tree::{
+    Clause, Form, Literal, Pair, Text, Unnamed, append_variables, fill, literals_equal,
+};
 use sigma_base::{Listed, NoMemory};
 use std::alloc::Global;
 
@@ -33,10 +35,7 @@ pub fn is_tidy(alloc: Global, clause: &Clause) -> Result<bool, NoMemory>
     ensures { IfOk result (λ answer. IsTrue answer ↔ spec.IsTidy clause.now) }
 {
     let tidied = tidy(alloc, clause)?;
-    Ok(same_clauses(
-        tidied.literals.items(),
-        clause.literals.items(),
-    ))
+    Ok(same_clauses(tidied.literals.items(), clause.literals.items()))
 }
 
 /// Whether the literals are equal, one by one and in number. It takes no memory.
@@ -65,11 +64,7 @@ pub fn without_repeats(alloc: Global, literals: &[Literal]) -> Result<Listed<Lit
     Ok(kept)
 }
 
-fn push_once(
-    alloc: Global,
-    kept: &mut Listed<Literal>,
-    literal: &Literal,
-) -> Result<(), NoMemory>
+fn push_once(alloc: Global, kept: &mut Listed<Literal>, literal: &Literal) -> Result<(), NoMemory>
     ensures { OnOk result (kept.new ≡ (if list_any (λ other. same_literal other literal.now) kept.old then kept.old else kept.old ++ literal.now ∷ [])) }
 {
     for other in kept.items() {

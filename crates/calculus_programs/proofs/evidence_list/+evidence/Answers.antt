@@ -1,9 +1,8 @@
-use Rattle.std.proofs.Common.{◌≡◌, ◌<◌, List, get_or, Some, None, ◌++◌, arith, append_assoc, sym, ap, ◌∙◌}
+use Rattle.std.proofs.Common.{◌≡◌, ◌<◌, List, get_or, Some, ◌++◌, arith, sym, ap, ◌∙◌}
 use Rattle.kif_tree.specs.Subst.{Filling, value_of, lookup, via}
-use Rattle.calculus.specs.Rules.{nth}
 use Rattle.calculus.specs.Evidence.{evidence}
 use Rattle.calculus_programs.proofs.OpenLaws.{absent}
-use Rattle.calculus_programs.proofs.PickLaws.{nth-some, ok_map}
+use Rattle.calculus_programs.proofs.PickLaws.{nth-some}
 use Rattle.calculus_programs.proofs.StepLaws.{no_step, of_input, resolve_below, resolve_none, resolve_some, factor_below, factor_none, factor_some, paramodulate_below, paramodulate_none, paramodulate_some, option_some, option_none, added_none, on_ok, one_part, two_parts, three_parts}
 use Rattle.kif_tree.specs.declared.subst.Pair.{Pair}
 use Rattle.kif_tree.specs.Clauses.{Literals}

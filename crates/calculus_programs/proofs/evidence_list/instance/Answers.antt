@@ -1,4 +1,4 @@
-use Rattle.std.proofs.Common.{◌≡◌, ◌∷◌, [], ◌++◌, sym, ap, ◌∙◌, arith}
+use Rattle.std.proofs.Common.{◌∷◌, [], ◌++◌, sym, ap, ◌∙◌}
 use Rattle.kif_tree.specs.Subst.{value_of}
 use Rattle.kif_tree.specs.Clauses.{Literals, bare}
 use Rattle.kif_tree.proofs.ClauseLaws.{bare_more}

@@ -1,4 +1,4 @@
-use Rattle.std.proofs.Common.{◌≡◌, ◌++◌, List, map, ap, ◌∙◌, arith}
+use Rattle.std.proofs.Common.{◌≡◌, ◌++◌, map, ap, ◌∙◌, arith}
 use Rattle.kif_tree.specs.Subst.{value_of}
 use Rattle.calculus_programs.specs.Pairs.{fill_pair}
 use Rattle.calculus_programs.proofs.FillingLaws.{follows_pairs}

@@ -1,5 +1,4 @@
-use Rattle.std.proofs.Common.{◌≡◌, ℕ, ◌-◌, ◌<◌, ◌≤◌, List, ◌∷◌, length, get_or, take, drop, None, Some, sym, ap, ◌∙◌, arith}
-use Rattle.kif_tree.specs.declared.form.Form.{Form}
+use Rattle.std.proofs.Common.{◌≡◌, ℕ, ◌-◌, ◌<◌, List, length, get_or, take, drop, None, Some, sym, ap, ◌∙◌, arith}
 use Rattle.kif_tree.specs.declared.form.Form.TheVariants as form
 use Rattle.calculus.specs.Rules.{opened}
 use Rattle.calculus_programs.proofs.OpenLaws.{absent, first_number, opened_outside, opened_no_inside, opened_some}

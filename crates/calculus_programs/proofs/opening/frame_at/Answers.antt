@@ -1,4 +1,4 @@
-use Rattle.std.proofs.Common.{◌≡◌, arith, ◌+◌}
+use Rattle.std.proofs.Common.{arith, ◌+◌}
 use Rattle.sigma_base.proofs.SliceLaws.{to_the_end}
 use Rattle.calculus_programs.proofs.OpenLaws.{argument_some}
 use Rattle.calculus_programs.proofs.opening.frame_at.Goals as goal

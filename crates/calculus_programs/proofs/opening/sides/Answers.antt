@@ -1,4 +1,4 @@
-use Rattle.std.proofs.Common.{◌≡◌, List, sym, ap, ◌∙◌, arith}
+use Rattle.std.proofs.Common.{sym, ap, ◌∙◌, arith}
 use Rattle.kif_tree.specs.declared.form.Form.TheVariants as form
 use Rattle.calculus_programs.proofs.OpenLaws.{sides_unheaded, sides_some}
 use Rattle.calculus_programs.proofs.opening.sides.Goals as goal

@@ -1,7 +1,7 @@
-use Rattle.std.proofs.Common.{arith, ◌≡◌, Bool, ◌&&◌, ◌↔◌, not, subst, sym, ap, ap₂, ◌∙◌}
+use Rattle.std.proofs.Common.{arith, ◌≡◌, Bool, ◌&&◌, ◌↔◌, not, subst, ap₂, ◌∙◌}
 use Rattle.std.specs.Bool.{IsTrue}
 use Rattle.std.specs.List.{list_all, list_any}
-use Rattle.kif_tree.specs.Clauses.{Literals, is_answer}
+use Rattle.kif_tree.specs.Clauses.{is_answer}
 use Rattle.calculus.specs.Proper.{IsProper}
 use Rattle.calculus_programs.specs.Shape.{fits}
 use Rattle.calculus_programs.proofs.ShapeLaws.{proper_by_tests}

@@ -1,6 +1,5 @@
 use Rattle.std.proofs.Common.{◌≡◌, ◌+◌, ◌∷◌, [], ◌++◌, take, drop, ap, sym, ◌∙◌, arith}
 use Rattle.sigma_base.proofs.SliceLaws.{to_the_end}
-use Rattle.kif_tree.specs.declared.form.Form.{Form}
 use Rattle.kif_tree.specs.declared.clause.Literal.{Literal}
 use Rattle.kif_tree.specs.Subst.{bind, lookup}
 use Rattle.kif_tree.specs.Clauses.{bind_clause}

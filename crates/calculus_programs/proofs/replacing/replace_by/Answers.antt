@@ -1,4 +1,4 @@
-use Rattle.std.proofs.Common.{◌≡◌, None, Some, sym, ap, ◌∙◌, arith}
+use Rattle.std.proofs.Common.{◌≡◌, None, Some, sym, ap, ◌∙◌}
 use Rattle.kif_tree.specs.declared.clause.Literal.{Literal}
 use Rattle.kif_tree.specs.Subst.{lookup}
 use Rattle.calculus.specs.Rules.{opened}

@@ -1,7 +1,5 @@
-use Rattle.std.proofs.Common.{◌≡◌, ◌++◌, [], true, false, Some, sym, ap, ◌∙◌, arith}
+use Rattle.std.proofs.Common.{true, false, sym, ◌∙◌, arith}
 use Rattle.kif_tree.specs.Subst.{lookup}
-use Rattle.kif_tree.specs.Clauses.{Literals}
-use Rattle.kif_tree.specs.declared.clause.Literal.{Literal}
 use Rattle.calculus_programs.proofs.PickLaws.{factored_none, factored_not_before, factored_at}
 use Rattle.calculus_programs.proofs.rules.factor.Goals as goal
 

@@ -1,6 +1,5 @@
-use Rattle.std.proofs.Common.{◌≡◌, ◌++◌, [], true, false, inl, inr, Some, sym, ap, ◌∙◌, arith}
+use Rattle.std.proofs.Common.{true, false, inl, inr, sym, ◌∙◌, arith}
 use Rattle.kif_tree.specs.Subst.{lookup}
-use Rattle.kif_tree.specs.Clauses.{Literals}
 use Rattle.calculus_programs.proofs.PickLaws.{resolved_none, resolved_at}
 use Rattle.calculus_programs.proofs.rules.resolve.Goals as goal
 

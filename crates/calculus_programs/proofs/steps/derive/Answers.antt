@@ -1,6 +1,5 @@
-use Rattle.std.proofs.Common.{◌≡◌, ◌+◌, List, take, Some, sym, subst, ap, ◌∙◌, arith}
+use Rattle.std.proofs.Common.{◌≡◌, ◌+◌, List, take, Some, sym, subst, arith}
 use Rattle.kif_tree.specs.Clauses.{Literals}
-use Rattle.calculus.specs.declared.step.Step.{Step}
 use Rattle.calculus.specs.Rules.{clause_of, Derivation}
 use Rattle.calculus_programs.proofs.DeriveLaws.{derivation_more}
 use Rattle.calculus_programs.proofs.steps.derive.Goals as goal

@@ -1,4 +1,4 @@
-use Rattle.std.proofs.Common.{arith, sym}
+use Rattle.std.proofs.Common.{arith}
 use Rattle.calculus_programs.proofs.TidyingLaws.{numbered_more}
 use Rattle.calculus_programs.proofs.tidying.numbered.Goals as goal
 

@@ -1,4 +1,4 @@
-use Rattle.std.proofs.Common.{◌≡◌, [], ◌++◌, refl, arith}
+use Rattle.std.proofs.Common.{◌≡◌, refl, arith}
 use Rattle.kif_tree.specs.Clauses.{Literals}
 use Rattle.calculus.specs.Tidy.{tidy, without_repeats, renamed}
 use Rattle.calculus_programs.proofs.tidying.tidy.Goals as goal
