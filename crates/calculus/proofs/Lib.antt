@@ -13,3 +13,4 @@ pub mod RuleLaws
 pub mod SatisfactionLaws
 pub mod StepLaws
 pub mod TruthLaws
+pub mod VariableLaws

@@ -23,7 +23,7 @@ use Rattle.calculus.proofs.TruthLaws.{false_true, members}
 use Rattle.calculus.proofs.PairLaws.{clause-agree}
 use Rattle.calculus.proofs.RepeatLaws.{Returns, returns-each, each-without, without-there, without-twice}
 
-list_same : (xs ys : List Form) → form.List xs ≡ form.List ys → xs ≡ ys
+pub list_same : (xs ys : List Form) → form.List xs ≡ form.List ys → xs ≡ ys
 list_same xs ys e = let layers : Form-F.List xs ≡ Form-F.List ys = sym (form.outs-List xs) ∙ ap out-Form e ∙ form.outs-List ys in cc
 
 -- ---- a filling that leaves a form leaves its variables

@@ -9,7 +9,7 @@ use Rattle.calculus.specs.Evidence.{list_from, equalities, step_evidence, eviden
 use Rattle.calculus.specs.Laws.{EvidenceSteps}
 use Rattle.calculus.proofs.PlaceLaws.{through, nth_take}
 
-alike_from : {A B : Type 0} (o : Option A) (f g : A → List B) → ((a : A) → o ≡ Some a → f a ≡ g a) → list_from o f ≡ list_from o g
+pub alike_from : {A B : Type 0} (o : Option A) (f g : A → List B) → ((a : A) → o ≡ Some a → f a ≡ g a) → list_from o f ≡ list_from o g
 alike_from None f g h = refl
 alike_from (Some a) f g h = h a refl
 

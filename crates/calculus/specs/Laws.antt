@@ -5,6 +5,7 @@ use Rattle.sigma_base.specs.Lists.{Each}
 use Rattle.kif_tree.specs.declared.form.Form.{Form}
 use Rattle.kif_tree.specs.declared.subst.Pair.{Pair}
 use Rattle.kif_tree.specs.declared.clause.Literal.{Literal}
+use Rattle.kif_tree.specs.Terms.{is_ground}
 use Rattle.kif_tree.specs.Subst.{Filling, lookup, compose, value_of}
 use Rattle.kif_tree.specs.Clauses.{Literals, bind_clause, bare, is_answer, clause_variables}
 use Rattle.calculus.specs.declared.step.Step.{Step}
@@ -86,6 +87,17 @@ EvidenceSteps = (inputs : List Literals) (steps : List Step) (clauses : List Lit
 -- a ground instance under a filling is one under a list of pairs
 abbrev pub PairsSuffice : Type 0
 PairsSuffice = (clause : Literals) (g : Filling) → bare clause (value_of (pairs_of g (clause_variables clause))) ≡ bare clause g
+
+-- evidence depends on what the variables of its clause become, and on no other variable
+abbrev pub EvidenceIsOfVariables : Type 0
+EvidenceIsOfVariables = (inputs : List Literals) (steps : List Step) (clauses : List Literals) → Derivation inputs steps clauses
+    → (n : ℕ) (clause : Literals) → nth clauses n ≡ Some clause
+    → (first second : Filling) → Each (λ name. first name ≡ second name) (clause_variables clause)
+    → evidence inputs steps clauses n first ≡ evidence inputs steps clauses n second
+
+-- pairs of ground forms make each variable ground, also one that no pair names
+abbrev pub GroundPairsClose : Type 0
+GroundPairsClose = (pairs : List Pair) → list_all (λ pair. is_ground pair.term) pairs ≡ true → Closes (value_of pairs)
 
 -- ---- queries
 

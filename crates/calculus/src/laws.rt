@@ -75,3 +75,13 @@ pub fn idempotence_law()
 pub fn renaming_law()
     ensures { laws.TidiesAlike }
 {}
+
+/// The evidence of a clause depends on what the variables of the clause become, and on no other variable.
+pub fn variables_law()
+    ensures { laws.EvidenceIsOfVariables }
+{}
+
+/// A substitution by ground forms makes each variable ground, also one that no pair names.
+pub fn closing_law()
+    ensures { laws.GroundPairsClose }
+{}

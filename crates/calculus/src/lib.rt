@@ -7,9 +7,9 @@ mod places;
 mod step;
 
 pub use laws::{
-    answers_law, composition_law, contradiction_law, evidence_law, idempotence_law, instances_law,
-    negation_law, pairs_law, query_law, recursion_law, refutation_law, renaming_law,
-    resolution_law, satisfaction_law, uses_law,
+    answers_law, closing_law, composition_law, contradiction_law, evidence_law, idempotence_law,
+    instances_law, negation_law, pairs_law, query_law, recursion_law, refutation_law, renaming_law,
+    resolution_law, satisfaction_law, uses_law, variables_law,
 };
 pub use places::{Frame, Opened, Replaced, Sides};
 pub use step::Step;
