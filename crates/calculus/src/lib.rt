@@ -1,10 +1,12 @@
 //! Derivations by resolution, factoring and paramodulation, and their ground evidence.
-//! The definitions of `specs/` are what later crates cite, and the laws here hold of them.
+//! The definitions of `specs/` are what later crates cite, and the laws here hold of them. The one program here tells what a
+//! truth assignment satisfies.
 #![tactic(auto)]
 
 mod laws;
 mod places;
 mod step;
+mod truth;
 
 pub use laws::{
     answers_law, closing_law, composition_law, contradiction_law, evidence_law, idempotence_law,
@@ -13,3 +15,4 @@ pub use laws::{
 };
 pub use places::{Frame, Opened, Replaced, Sides};
 pub use step::Step;
+pub use truth::{holds, is_true, satisfies, satisfies_all};

@@ -14,7 +14,6 @@ mod steps;
 #[cfg(test)]
 mod tests;
 mod tidying;
-mod truth;
 
 pub use equality::is_equality_instance;
 pub use evidence_list::{Derived, evidence};
@@ -27,4 +26,3 @@ pub use replacing::{Parent, replace};
 pub use rules::{factor, resolve};
 pub use steps::{clause_of, copy_clause, derive, nth, replacement_of, untidy};
 pub use tidying::{is_tidy, same_clauses, tidy};
-pub use truth::{holds, is_true, satisfies, satisfies_all};

@@ -3,7 +3,7 @@ ghost use Rattle.std.specs.Prelude.{◌≡◌, ◌∷◌, [], ◌++◌, ◌↔�
 ghost use Rattle.calculus.specs.Truth.{Refutes, is_true};
 ghost use Rattle.calculus_programs.specs.Choices as spec;
 
-use crate::truth::{is_true, satisfies_all};
+use calculus::{is_true, satisfies_all};
 use kif_tree::{Clause, Form, Forms, copy_all};
 use sigma_base::{Listed, NoMemory};
 use std::alloc::Global;
