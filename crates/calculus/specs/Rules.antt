@@ -16,14 +16,17 @@ use Rattle.calculus.specs.Tidy.{tidy}
 
 -- ---- what may not be there
 
+-- what follows from something that may not be there
 abbrev pub after : {A B : Type 0} → Option A → (A → Option B) → Option B
 after None f = None
 after (Some a) f = f a
 
+-- only where the test is passed
 abbrev pub given : {B : Type 0} → Bool → Option B → Option B
 given true o = o
 given false o = None
 
+-- the item of that number, counted from 0
 abbrev pub nth : {X : Type 0} → List X → ℕ → Option X
 nth [] n = None
 nth (x ∷ xs) zero = Some x
@@ -38,6 +41,7 @@ pub record Picked (X : Type 0) : Type 0 where
 abbrev pub put_first : {X : Type 0} → X → Picked X → Picked X
 put_first x p = record { before = x ∷ p.before; chosen = p.chosen; following = p.following }
 
+-- the item of that number, apart from the others
 abbrev pub pick : {X : Type 0} → List X → ℕ → Option (Picked X)
 pick [] n = None
 pick (x ∷ xs) zero = Some (record { before = []; chosen = x; following = xs })
@@ -52,6 +56,7 @@ others p = p.before ++ p.following
 abbrev pub framed : Frame → Form → Form
 framed frame f = form.List (frame.head ∷ (frame.before ++ f ∷ frame.following))
 
+-- the list with its forms under the filling
 abbrev pub bind_frame : Filling → Frame → Frame
 bind_frame g frame = record { head = bind g frame.head; before = map (bind g) frame.before; following = map (bind g) frame.following }
 
@@ -119,33 +124,42 @@ sides f = sides_in (out-Form f)
 
 -- ---- the three rules, before the conclusion is tidied
 
+-- a positive literal of the left clause and a negative one of the right, neither an answer literal, whose atoms become equal
 abbrev pub resolves : Filling → Filling → Literal → Literal → Bool
 resolves f g l r = l.positive && (not r.positive && (not (is_answer l.atom) && (not (is_answer r.atom) && same (bind f l.atom) (bind g r.atom))))
 
+-- the left clause's other literals, then the right's
 abbrev pub resolved : Literals → ℕ → Filling → Literals → ℕ → Filling → Option Literals
 resolved left i f right j g = after (pick left i) (λ l. after (pick right j) (λ r.
     given (resolves f g l.chosen r.chosen) (Some (bind_clause f (others l) ++ bind_clause g (others r)))))
 
+-- two literals of one sign, neither an answer literal, that become equal
 abbrev pub merges : Filling → Literal → Literal → Bool
 merges f k d = same_sign k.positive d.positive && (not (is_answer k.atom) && (not (is_answer d.atom) && same (bind f k.atom) (bind f d.atom)))
 
+-- literal i stands before literal j, and j is dropped
 abbrev pub factored : Literals → ℕ → ℕ → Filling → Option Literals
 factored clause i j f = after (pick clause j) (λ d. after (pick d.before i) (λ k.
     given (merges f k.chosen d.chosen) (Some (bind_clause f (others d)))))
 
+-- the side that is replaced
 abbrev pub from_side : Bool → Sides → Form
 from_side flipped e = if flipped then e.right else e.left
 
+-- the side that comes in its place
 abbrev pub to_side : Bool → Sides → Form
 to_side flipped e = if flipped then e.left else e.right
 
+-- a positive equality, a literal that is no answer literal, and a place inside its atom, no variable, that becomes equal to the replaced side
 abbrev pub replaces : Filling → Bool → Sides → Filling → Literal → Literal → Opened → Bool
 replaces f flipped e g source target o =
     source.positive && (not (is_answer target.atom) && (not (is_empty o.frames) && (not (is_variable (out-Form o.inner)) && same (bind g o.inner) (bind f (from_side flipped e)))))
 
+-- the target's literal with the other side at that place
 abbrev pub changed : Filling → Form → Filling → Literal → Opened → Literal
 changed f to g target o = record { positive = target.positive; atom = plugged (map (bind_frame g) o.frames) (bind f to) }
 
+-- the source's other literals, then the target's with the one that is changed in its place
 abbrev pub replacement_by : Filling → Bool → Picked Literal → Sides → Filling → Picked Literal → Opened → Replaced
 replacement_by f flipped s e g m o = record {
   conclusion = bind_clause f (others s) ++ (bind_clause g m.before ++ changed f (to_side flipped e) g m.chosen o ∷ bind_clause g m.following);
