@@ -74,14 +74,13 @@ shows_one : (path : Bytes) (facts : List Located) (query : Form) (status other :
     → Shows path facts query status text → Shows path facts query other page → SameOutcome status other text page
 shows_one path facts query status other text page (inl a) (inl b) =
     let fact = first_fact query facts a.number b.number a.subst b.subst a.first b.first in
-    let fits : Fits b.subst query a.first.fact.form = b.first.fits ∙ sym (ap (λ (l : Located). l.form) fact) in
-    (
-        a.done ∙ sym b.done,
-        a.page
-        ∙ page_one path query a.first.fact b.first.fact a.subst b.subst fact
-        (same_binding query a.first.fact.form a.subst b.subst a.first.fits fits)
-        (same_values query a.first.fact.form a.subst b.subst a.first.fits fits)
-        ∙ sym b.page,
+    let fits : Fits b.subst query a.first.fact.form = b.first.fits ∙ sym (ap (λ (l : Located). l.form) fact) in (
+      a.done ∙ sym b.done,
+      a.page
+          ∙ page_one path query a.first.fact b.first.fact a.subst b.subst fact
+          (same_binding query a.first.fact.form a.subst b.subst a.first.fits fits)
+          (same_values query a.first.fact.form a.subst b.subst a.first.fits fits)
+          ∙ sym b.page,
     )
 shows_one path facts query status other text page (inl a) (inr b) = absurd (b.none a.number a.first.fact a.first.stands a.subst a.first.fits)
 shows_one path facts query status other text page (inr a) (inl b) = absurd (a.none b.number b.first.fact b.first.stands b.subst b.first.fits)
@@ -99,6 +98,7 @@ body_one asks body status other text page (inl a) (inl b) =
   where
     at_query : {q p : Form} {fs : List Located} → q ≡ p → Shows asks.path fs q status text → Shows asks.path fs p status text
     at_query {fs = fs} e h = subst (λ (q : Form). Shows asks.path fs q status text) e h
+
     at_facts : {fs gs : List Located} {q : Form} → fs ≡ gs → Shows asks.path fs q status text → Shows asks.path gs q status text
     at_facts {q = q} e h = subst (λ (fs : List Located). Shows asks.path fs q status text) e h
 body_one asks body status other text page (inl a) (inr b) = absurd (b.unread a.facts a.query a.read)

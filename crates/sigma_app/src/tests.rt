@@ -58,12 +58,24 @@ fn files_of(rt: &impl Abort, alloc: Global, run: &Run) -> Result<MemFiles, NoMem
 fn check(rt: &impl Abort, alloc: Global, run: &Run) -> Result<(), NoMemory> {
     let words = words_of(alloc, run.words)?;
     let mut files = files_of(rt, alloc, run)?;
-    let mut out = MemSink::new(Text::of(alloc, b"before\n")?, Vec::from_slice(alloc, run.failing_writes)?)?;
+    let mut out = MemSink::new(
+        Text::of(alloc, b"before\n")?,
+        Vec::from_slice(alloc, run.failing_writes)?,
+    )?;
     let status = run_tool(alloc, &words, &mut files, &mut out);
     assert_eq!(rt; status, run.status, "words {:?}", run.words);
     assert!(rt; out.written().starts_with(b"before\n"));
-    assert_eq!(rt; out.written().len(), 7 + run.printed.len(), "words {:?}", run.words);
-    assert!(rt; out.written().ends_with(run.printed.as_bytes()), "words {:?}", run.words);
+    assert_eq!(rt;
+        out.written().len(),
+        7 + run.printed.len(),
+        "words {:?}",
+        run.words
+    );
+    assert!(rt;
+        out.written().ends_with(run.printed.as_bytes()),
+        "words {:?}",
+        run.words
+    );
     Ok(())
 }
 
@@ -74,67 +86,94 @@ fn check_all(rt: &impl Abort, alloc: Global, runs: &[Run]) -> Result<(), NoMemor
     Ok(())
 }
 
-const USAGE: &str = "usage: sigma ask [--turns N] [--answers N] [--kept N] [--mode support|full] QUERY FILE...\n       sigma check FILE...\n       sigma clauses FILE...\n       sigma export FILE...\n       sigma drill N\n       sigma serve --port P --workers N --store FILE\n";
+const USAGE: &str =
+    "usage: sigma ask [--turns N] [--answers N] [--kept N] [--mode support|full] QUERY FILE...\n       sigma check FILE...\n       sigma clauses FILE...\n       sigma export FILE...\n       sigma drill N\n       sigma serve --port P --workers N --store FILE\n";
 
 #[test]
 fn shows_the_first_fact_that_answers(rt: HostRuntime) -> Result<(), Fail> {
-    check_all(&rt, rt.alloc(), &[
-        quiet(
-            &["ask", "(p ?X)", "facts.kif"],
-            "(q c)\n(p a)\n",
-            0,
-            "answer 1\n  ?X = a\nproof\n  1. (p a) [facts.kif:2:1]\n  2. (or (not (p ?X1)) (!answer ?X1)) [query]\n  3. (!answer a) [resolve 1 2]\nend enough turns 1\n",
-        ),
-        quiet(
-            &["ask", "(p a)", "facts.kif"],
-            "(p a)\n",
-            0,
-            "answer 1\n  yes\nproof\n  1. (p a) [facts.kif:1:1]\n  2. (or (not (p a)) (!answer)) [query]\n  3. (!answer) [resolve 1 2]\nend enough turns 1\n",
-        ),
-        quiet(
-            &["ask", "(r ?Y b ?X ?Y)", "facts.kif"],
-            "(r a b c d)\n(r a b c a)\n(r c b a c)\n",
-            0,
-            "answer 1\n  ?Y = a\n  ?X = c\nproof\n  1. (r a b c a) [facts.kif:2:1]\n  2. (or (not (r ?X1 b ?X2 ?X1)) (!answer ?X1 ?X2)) [query]\n  3. (!answer a c) [resolve 1 2]\nend enough turns 1\n",
-        ),
-    ])?;
+    check_all(
+        &rt,
+        rt.alloc(),
+        &[
+            quiet(
+                &["ask", "(p ?X)", "facts.kif"],
+                "(q c)\n(p a)\n",
+                0,
+                "answer 1\n  ?X = a\nproof\n  1. (p a) [facts.kif:2:1]\n  2. (or (not (p ?X1)) (!answer ?X1)) [query]\n  3. (!answer a) [resolve 1 2]\nend enough turns 1\n",
+            ),
+            quiet(
+                &["ask", "(p a)", "facts.kif"],
+                "(p a)\n",
+                0,
+                "answer 1\n  yes\nproof\n  1. (p a) [facts.kif:1:1]\n  2. (or (not (p a)) (!answer)) [query]\n  3. (!answer) [resolve 1 2]\nend enough turns 1\n",
+            ),
+            quiet(
+                &["ask", "(r ?Y b ?X ?Y)", "facts.kif"],
+                "(r a b c d)\n(r a b c a)\n(r c b a c)\n",
+                0,
+                "answer 1\n  ?Y = a\n  ?X = c\nproof\n  1. (r a b c a) [facts.kif:2:1]\n  2. (or (not (r ?X1 b ?X2 ?X1)) (!answer ?X1 ?X2)) [query]\n  3. (!answer a c) [resolve 1 2]\nend enough turns 1\n",
+            ),
+        ],
+    )?;
     Ok(())
 }
 
 #[test]
 fn shows_that_no_fact_answers(rt: HostRuntime) -> Result<(), Fail> {
     let none = "end saturated turns 1\n";
-    check_all(&rt, rt.alloc(), &[
-        quiet(&["ask", "(p ?X ?X)", "facts.kif"], "(p a b)\n", 1, none),
-        quiet(&["ask", "(p a)", "facts.kif"], "", 1, none),
-        quiet(&["ask", "(p ?X)", "facts.kif"], "(p)\n(p a b)\n(q a)\n", 1, none),
-    ])?;
+    check_all(
+        &rt,
+        rt.alloc(),
+        &[
+            quiet(&["ask", "(p ?X ?X)", "facts.kif"], "(p a b)\n", 1, none),
+            quiet(&["ask", "(p a)", "facts.kif"], "", 1, none),
+            quiet(
+                &["ask", "(p ?X)", "facts.kif"],
+                "(p)\n(p a b)\n(q a)\n",
+                1,
+                none,
+            ),
+        ],
+    )?;
     Ok(())
 }
 
 #[test]
 fn says_what_is_not_built(rt: HostRuntime) -> Result<(), Fail> {
     let not_built = "not built\n";
-    check_all(&rt, rt.alloc(), &[
-        quiet(&["ask", "(p ?X)", "facts.kif"], "(=> (p a) (q a))\n", 10, not_built),
-        quiet(&["ask", "(p ?X)", "facts.kif"], "(p a)", 10, not_built),
-        quiet(&["ask", "(p ?X)", "facts.kif"], "(p  a)\n", 10, not_built),
-        quiet(&["ask", "(p ?)", "facts.kif"], "(p a)\n", 10, not_built),
-        quiet(&["ask", "", "facts.kif"], "(p a)\n", 10, not_built),
-    ])?;
+    check_all(
+        &rt,
+        rt.alloc(),
+        &[
+            quiet(
+                &["ask", "(p ?X)", "facts.kif"],
+                "(=> (p a) (q a))\n",
+                10,
+                not_built,
+            ),
+            quiet(&["ask", "(p ?X)", "facts.kif"], "(p a)", 10, not_built),
+            quiet(&["ask", "(p ?X)", "facts.kif"], "(p  a)\n", 10, not_built),
+            quiet(&["ask", "(p ?)", "facts.kif"], "(p a)\n", 10, not_built),
+            quiet(&["ask", "", "facts.kif"], "(p a)\n", 10, not_built),
+        ],
+    )?;
     Ok(())
 }
 
 #[test]
 fn refuses_other_words(rt: HostRuntime) -> Result<(), Fail> {
-    check_all(&rt, rt.alloc(), &[
-        quiet(&[], "", 2, USAGE),
-        quiet(&["ask", "(p a)"], "", 2, USAGE),
-        quiet(&["ask", "(p a)", "facts.kif", "facts.kif"], "", 2, USAGE),
-        quiet(&["asks", "(p a)", "facts.kif"], "(p a)\n", 2, USAGE),
-        quiet(&["ask", "-p", "facts.kif"], "(p a)\n", 2, USAGE),
-        quiet(&["ask", "(p a)", "-"], "(p a)\n", 2, USAGE),
-    ])?;
+    check_all(
+        &rt,
+        rt.alloc(),
+        &[
+            quiet(&[], "", 2, USAGE),
+            quiet(&["ask", "(p a)"], "", 2, USAGE),
+            quiet(&["ask", "(p a)", "facts.kif", "facts.kif"], "", 2, USAGE),
+            quiet(&["asks", "(p a)", "facts.kif"], "(p a)\n", 2, USAGE),
+            quiet(&["ask", "-p", "facts.kif"], "(p a)\n", 2, USAGE),
+            quiet(&["ask", "(p a)", "-"], "(p a)\n", 2, USAGE),
+        ],
+    )?;
     Ok(())
 }
 
@@ -149,12 +188,21 @@ fn tells_what_the_outside_refused(rt: HostRuntime) -> Result<(), Fail> {
         status,
         printed,
     };
-    check_all(&rt, rt.alloc(), &[
-        quiet(&["ask", "(p a)", "other.kif"], "(p a)\n", 3, "absent other.kif\n"),
-        failed(&[1], &[], 4, "file fault facts.kif\n"),
-        failed(&[2], &[2], 1, "end saturated turns 1\n"),
-        failed(&[], &[1], 8, ""),
-        failed(&[1], &[1], 8, ""),
-    ])?;
+    check_all(
+        &rt,
+        rt.alloc(),
+        &[
+            quiet(
+                &["ask", "(p a)", "other.kif"],
+                "(p a)\n",
+                3,
+                "absent other.kif\n",
+            ),
+            failed(&[1], &[], 4, "file fault facts.kif\n"),
+            failed(&[2], &[2], 1, "end saturated turns 1\n"),
+            failed(&[], &[1], 8, ""),
+            failed(&[1], &[1], 8, ""),
+        ],
+    )?;
     Ok(())
 }

@@ -77,7 +77,14 @@ fn found_page(
     let values = binding_of(alloc, query, subst)?;
     let lines = proof_lines(alloc, query, fact, values.items())?;
     let mut page = Text::new(alloc);
-    append_answer(alloc, &mut page, names.items(), 1, values.items(), lines.items())?;
+    append_answer(
+        alloc,
+        &mut page,
+        names.items(),
+        1,
+        values.items(),
+        lines.items(),
+    )?;
     append_end(&mut page, b"enough", 1)?;
     Ok(page)
 }
