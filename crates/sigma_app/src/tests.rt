@@ -1,7 +1,7 @@
 //! The rows of plain input and each status, over files and a sink in memory.
 use crate::run_tool;
 use kif_tree::Text;
-use sig_io::{MemFiles, MemSink, NamedFile, Words, have_own_names};
+use sig_io::{MemFiles, MemSink, NamedFile, Sink, Words, WriteError, after_fault, have_own_names};
 use sigma_base::NoMemory;
 use std::alloc::Global;
 use std::process::Abort;
@@ -29,6 +29,24 @@ const fn quiet(
         body,
         failing_fetches: &[],
         failing_writes: &[],
+        status,
+        printed,
+    }
+}
+
+/// Asks a file that holds `(p b)`.
+const fn failing(
+    words: &'static [&'static str],
+    failing_fetches: &'static [u64],
+    failing_writes: &'static [u64],
+    status: u8,
+    printed: &'static str,
+) -> Run {
+    Run {
+        words,
+        body: "(p b)\n",
+        failing_fetches,
+        failing_writes,
         status,
         printed,
     }
@@ -177,17 +195,10 @@ fn refuses_other_words(rt: HostRuntime) -> Result<(), Fail> {
     Ok(())
 }
 
+const ASK: &[&str] = &["ask", "(p a)", "facts.kif"];
+
 #[test]
 fn tells_what_the_outside_refused(rt: HostRuntime) -> Result<(), Fail> {
-    let words: &[&str] = &["ask", "(p a)", "facts.kif"];
-    let failed = |failing_fetches, failing_writes, status, printed| Run {
-        words,
-        body: "(p b)\n",
-        failing_fetches,
-        failing_writes,
-        status,
-        printed,
-    };
     check_all(
         &rt,
         rt.alloc(),
@@ -198,11 +209,116 @@ fn tells_what_the_outside_refused(rt: HostRuntime) -> Result<(), Fail> {
                 3,
                 "absent other.kif\n",
             ),
-            failed(&[1], &[], 4, "file fault facts.kif\n"),
-            failed(&[2], &[2], 1, "end saturated turns 1\n"),
-            failed(&[], &[1], 8, ""),
-            failed(&[1], &[1], 8, ""),
+            quiet(
+                &["ask", "(p ?", "other.kif"],
+                "(p a)\n",
+                3,
+                "absent other.kif\n",
+            ),
+            failing(ASK, &[1], &[], 4, "file fault facts.kif\n"),
+            failing(
+                &["ask", "(p ?", "facts.kif"],
+                &[1],
+                &[],
+                4,
+                "file fault facts.kif\n",
+            ),
+            failing(ASK, &[2], &[2], 1, "end saturated turns 1\n"),
+            failing(ASK, &[], &[1], 8, ""),
+            failing(ASK, &[1], &[1], 8, ""),
         ],
     )?;
+    Ok(())
+}
+
+/// A sink that takes a byte at a time, and as many as there is room for.
+#[derive(Drop)]
+struct Drip {
+    content: Text,
+    room: u8,
+    faults: u64,
+}
+
+impl Sink for Drip {
+    ghost use Rattle.std.specs.Prelude.{Some};
+
+    ghost told = { λ s. Some s.content };
+
+    ghost faults = { λ s. s.faults };
+
+    fn write(&mut self, piece: &[u8]) -> Result<usize, WriteError> {
+        if self.room == 0 {
+            self.faults = after_fault(self.faults);
+            return Err(WriteError::Failed);
+        }
+        let Some(&byte) = piece.first() else {
+            return Ok(0);
+        };
+        if self.content.push(byte).is_err() {
+            return Err(WriteError::NoMemory);
+        }
+        self.room -= 1;
+        Ok(1)
+    }
+}
+
+fn cut_short(rt: &impl Abort, alloc: Global, room: u8) -> Result<(u8, Text), NoMemory> {
+    let run = quiet(&["ask", "(p a)", "facts.kif"], "(p b)\n", 0, "");
+    let words = words_of(alloc, run.words)?;
+    let mut files = files_of(rt, alloc, &run)?;
+    let mut out = Drip {
+        content: Text::new(alloc),
+        room,
+        faults: 0,
+    };
+    let status = run_tool(alloc, &words, &mut files, &mut out);
+    Ok((status, out.content))
+}
+
+#[test]
+fn prints_a_prefix_where_a_later_write_fails(rt: HostRuntime) -> Result<(), Fail> {
+    let (status, printed) = cut_short(&rt, rt.alloc(), 3)?;
+    assert_eq!(rt; status, 8);
+    assert_eq!(rt; printed.bytes(), b"end".as_slice());
+    let (status, printed) = cut_short(&rt, rt.alloc(), 22)?;
+    assert_eq!(rt; status, 1);
+    assert_eq!(rt; printed.bytes(), b"end saturated turns 1\n".as_slice());
+    Ok(())
+}
+
+fn long_text(alloc: Global, length: u64) -> Result<Vec<u8>, NoMemory> {
+    let mut bytes = Vec::new(alloc);
+    for _ in 0..length {
+        if bytes.push(b'p').is_err() {
+            return Err(NoMemory);
+        }
+    }
+    Ok(bytes)
+}
+
+/// The status of a run with a query and a file of these lengths, neither of them plain.
+fn status_of(rt: &impl Abort, alloc: Global, query: u64, body: u64) -> Result<u8, NoMemory> {
+    let query = long_text(alloc, query)?;
+    let Ok(query) = str::from_utf8(query.as_slice()) else {
+        return Ok(0);
+    };
+    let words = words_of(alloc, &["ask", query, "long.kif"])?;
+    let mut files = Vec::new(alloc);
+    files.push(NamedFile {
+        name: Text::of(alloc, b"long.kif")?,
+        body: Text::of_bytes(long_text(alloc, body)?),
+    })?;
+    assert!(rt; have_own_names(&files));
+    let mut files = MemFiles::new(files, Vec::new(alloc))?;
+    let mut out = MemSink::new(Text::new(alloc), Vec::new(alloc))?;
+    Ok(run_tool(alloc, &words, &mut files, &mut out))
+}
+
+#[test]
+fn keeps_the_limits(rt: HostRuntime) -> Result<(), Fail> {
+    assert_eq!(rt; status_of(&rt, rt.alloc(), 8_388_608, 1)?, 10);
+    assert_eq!(rt; status_of(&rt, rt.alloc(), 8_388_609, 1)?, 2);
+    assert_eq!(rt; status_of(&rt, rt.alloc(), 1, 8_388_608)?, 10);
+    assert_eq!(rt; status_of(&rt, rt.alloc(), 1, 8_388_609)?, 10);
     Ok(())
 }
