@@ -1,2 +1,6 @@
-pub mod Laws
-pub mod Plain
+pub mod Bytes
+pub mod Chunks
+pub mod Cut
+pub mod Reading
+pub mod Spelling
+pub mod Steps

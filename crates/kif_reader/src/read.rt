@@ -1,0 +1,153 @@
+ghost use Rattle.std.specs.Prelude.{◌≡◌, ◌≤◌, ◌∷◌, [], ◌++◌, ◌+◌, ◌<◌, ◌^◌, ℕ, List, IfOk, OnOk, length, MatchResult, vec_len};
+ghost use Rattle.kif_reader.specs.Cut.{IsToken};
+ghost use Rattle.kif_reader.specs.Reading.{unread_of};
+ghost use Rattle.kif_reader.specs.Steps.{Adds, Follows, Refuses};
+ghost use Rattle.kif_reader.specs.Spelling.{Lexed, SpellsAll, Spells, FirstFault};
+
+use crate::bytes::Spot;
+use crate::kinds::{LexError, Open, ReadError, Token, TokenKind};
+use crate::leaves::leaf;
+use crate::tokens::Tokens;
+use sigma_base::{Listed, NoMemory};
+use kif_tree::{Form, Located, Place};
+use std::alloc::{AllocError, Global};
+
+/// Puts a form behind the parts of the innermost open list, or behind the forms.
+fn add(
+    forms: &mut Vec<Located>,
+    lists: &mut Vec<Open>,
+    constituent: u32,
+    form: Form,
+    line: u32,
+    column: u32,
+) -> Result<(), NoMemory>
+    requires { vec_len forms.old + 1 < 2 ^ 32 }
+    ensures { OnOk result (Adds constituent form line column forms.old.items forms.new.items lists.old.items lists.new.items) }
+{
+    match lists.pop() {
+        None => {
+            let place = Place {
+                constituent,
+                form: forms.len() as u32 + 1,
+                line,
+                column,
+            };
+            forms
+                .push(Located { form, place })
+                .map_err(AllocError::from)?;
+        }
+        Some(list) => {
+            let Open {
+                line,
+                column,
+                mut parts,
+            } = list;
+            parts.push(form)?;
+            lists.push(Open {
+                line,
+                column,
+                parts,
+            })
+            .map_err(AllocError::from)?;
+        }
+    }
+    Ok(())
+}
+
+fn open_list(
+    alloc: Global,
+    lists: &mut Vec<Open>,
+    line: u32,
+    column: u32,
+) -> Result<(), NoMemory>
+    ensures { OnOk result (lists.new.items ≡ lists.old.items ++ record { line = line; column = column; parts = [] } ∷ []) }
+{
+    lists
+        .push(Open {
+            line,
+            column,
+            parts: Listed::new(alloc),
+        })
+        .map_err(AllocError::from)?;
+    Ok(())
+}
+
+/// What a token does to the forms and the open lists.
+fn take_token(
+    alloc: Global,
+    forms: &mut Vec<Located>,
+    lists: &mut Vec<Open>,
+    constituent: u32,
+    token: Token,
+) -> Result<(), ReadError>
+    requires token { (follow : List ℕ) × IsToken token.kind token.text.now follow }
+    requires room { vec_len forms.old + 1 < 2 ^ 32 }
+    requires few { vec_len lists.old ≤ 200 }
+    ensures { MatchResult result
+        (λ _. Follows constituent token.entry.kind token.entry.text.now token.entry.line token.entry.column forms.old.items forms.new.items lists.old.items lists.new.items)
+        (λ error. Refuses token.entry.kind (length lists.old.items) token.entry.line token.entry.column error) }
+{
+    let line = token.line;
+    let column = token.column;
+    match token.kind {
+        TokenKind::Left => {
+            if lists.len() == 200 {
+                return Err(ReadError::TooDeep(Spot { line, column }));
+            }
+            open_list(alloc, lists, line, column)?;
+        }
+        TokenKind::Right => {
+            let Some(list) = lists.pop() else {
+                return Err(ReadError::StrayClose(Spot { line, column }));
+            };
+            let Open {
+                line,
+                column,
+                parts,
+            } = list;
+            add(forms, lists, constituent, Form::List(parts), line, column)?;
+        }
+        _ => {
+            let form = leaf(alloc, token)?;
+            add(forms, lists, constituent, form, line, column)?;
+        }
+    }
+    Ok(())
+}
+
+fn unread(error: LexError) -> ReadError
+    ensures { result ≡ unread_of error }
+{
+    match error {
+        LexError::BadByte(spot) => ReadError::BadByte(spot),
+        LexError::OpenString(spot) => ReadError::OpenString(spot),
+        LexError::BadEscape(spot) => ReadError::BadEscape(spot),
+        LexError::BadWord(spot) => ReadError::BadWord(spot),
+    }
+}
+
+/// The forms of a text with their places, whatever their shapes, or the first fault that is met while tokens are taken.
+fn read_trees(alloc: Global, text: &[u8], constituent: u32) -> Result<Vec<Located>, ReadError>
+    requires { length text.now < 2 ^ 31 }
+    ensures { MatchResult result
+        (λ forms. (tokens : List Lexed) × SpellsAll constituent text.now forms.items tokens)
+        (λ error. FirstFault constituent text.now error) }
+{
+    let mut tokens = Tokens::new(text);
+    let mut forms = Vec::new(alloc);
+    let mut lists: Vec<Open> = Vec::new(alloc);
+    while let Some(step) = tokens.next() {
+        match step {
+            Ok(token) => take_token(alloc, &mut forms, &mut lists, constituent, token)?,
+            Err(error) => return Err(unread(error)),
+        }
+    }
+    if let Some(list) = lists.first() {
+        let spot = Spot {
+            line: list.line,
+            column: list.column,
+        };
+        return Err(ReadError::OpenList(spot));
+    }
+    Ok(forms)
+}
