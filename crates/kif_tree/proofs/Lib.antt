@@ -1,6 +1,7 @@
 pub mod ClauseLaws
 pub mod HeadLaws
 pub mod PrintLaws
+pub mod ShapeLaws
 pub mod SubstLaws
 pub mod TermLaws
 pub mod VariableLaws
