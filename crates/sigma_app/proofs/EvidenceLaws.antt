@@ -16,7 +16,7 @@ use Rattle.kif_tree.specs.Clauses.{Literals, is_answer, clause_variables}
 use Rattle.kif_tree.proofs.TermLaws.{clean_all, clean-Variable}
 use Rattle.sig_io.specs.Told.{body_of}
 use Rattle.kif_reader.specs.Plain.{IsPlainAtom, ReadsFacts, located, forms_of}
-use Rattle.kif_reader.proofs.AtomLaws.{fact_ground, query_rowless}
+use Rattle.sigma_app.proofs.AtomLaws.{fact_ground, query_rowless}
 use Rattle.calculus.specs.declared.step.Step.{Step}
 use Rattle.calculus.specs.Tidy.{renaming}
 use Rattle.calculus.specs.Closed.{rowless_clause, clean_in, clean_pairs}

@@ -1,8 +1,9 @@
+pub mod AtomLaws
 pub mod EvidenceLaws
+pub mod FileLaws
 pub mod MatchLaws
 pub mod OutcomeLaws
 pub mod PlainLaws
 pub mod ProofLaws
 pub mod RunLaws
 pub mod ToolLaws
-pub mod WordLaws

@@ -14,8 +14,8 @@ use Rattle.kif_tree.specs.Subst.{Filling, bind, via, lookup, apply}
 use Rattle.kif_tree.specs.Clauses.{Literals, clause_variables, is_word, heads_layer, is_headed, is_answer}
 use Rattle.kif_tree.proofs.TermLaws.{clean-Word, clean-Variable, clean-Row, clean-Numeral, clean-Quoted, clean-List, clean_all, variables-Word, variables-Variable, variables-Row, variables-Numeral, variables-Quoted, variables-List}
 use Rattle.kif_tree.proofs.SubstLaws.{bind-Word, bind-Variable, bind-Row, bind-Numeral, bind-Quoted, bind-List, bind-via, agree, Agree}
-use Rattle.kif_reader.specs.Plain.{IsPlainAtom}
-use Rattle.kif_reader.proofs.AtomLaws.{fact_ground, headed_plain, plain_no_answer}
+use Rattle.sigma_app.specs.Plain.{IsPlainAtom}
+use Rattle.sigma_app.proofs.AtomLaws.{fact_ground, headed_plain, plain_no_answer}
 use Rattle.calculus.specs.declared.step.Step.{Step}
 use Rattle.calculus.specs.Tidy.{tidy, new_name, numbered, renaming}
 use Rattle.calculus.specs.Equality.{yes, no}

@@ -9,8 +9,7 @@ use Rattle.kif_tree.specs.declared.subst.Pair.{Pair}
 use Rattle.kif_tree.specs.Terms.{Bytes}
 use Rattle.kif_tree.specs.Subst.{Filling, bind}
 use Rattle.kif_tree.specs.Clauses.{Literals}
-use Rattle.sig_io.specs.Told.{body_of}
-use Rattle.kif_reader.specs.Plain.{ReadsFacts}
+use Rattle.kif_reader.specs.Spelling.{Spells}
 use Rattle.calculus.specs.declared.step.Step.{Step}
 use Rattle.calculus.specs.Closed.{Closes}
 use Rattle.calculus.specs.Rules.{nth, after, Derivation}
@@ -19,11 +18,13 @@ use Rattle.calculus.specs.Answers.{Among, IsEvidenceFor}
 use Rattle.sigma_app.specs.declared.page.Rule.{Rule}
 use Rattle.sigma_app.specs.declared.page.Rule.TheVariants.{Axiom, Reflexivity, Query, Resolve, Factor, Paramodulate}
 use Rattle.sigma_app.specs.declared.page.ProofLine.{ProofLine}
-use Rattle.sigma_app.specs.Words.{Asked, asked}
+use Rattle.sigma_app.specs.declared.files.Part.{Part}
+use Rattle.sigma_app.specs.Requests.{Asked, asks, Means}
+use Rattle.sigma_app.specs.Files.{Contents, AreWhole, load_names, SpellParts}
 use Rattle.sigma_app.specs.Matching.{IsFirstMatch, binding}
 use Rattle.sigma_app.specs.Page.{answer_text, end_text}
 use Rattle.sigma_app.specs.Proof.{unit_clause, query_clause, values, answer_clause}
-use Rattle.sigma_app.specs.Tool.{IsRead, load_names}
+use Rattle.sigma_app.specs.Tool.{IsPlain}
 
 -- ---- what a search begins with
 
@@ -61,11 +62,6 @@ ShowSteps inputs steps clauses lines = (n : ℕ) → nth lines n ≡ after (nth 
 
 -- ---- cited lines
 
--- a text under its number
-pub record Part : Type 0 where
-  pub number : ℕ
-  pub text : Bytes
-
 -- The one part with the number that the place names has a text that spells, as the form of the number that the place names,
 -- a form that begins in its line and column, and the clause is of that variant of the form.
 pub record Holds (parts : List Part) (place : Place) (variant : ℕ) (clause : Literals) : Type 0 where
@@ -75,22 +71,19 @@ pub record Holds (parts : List Part) (place : Place) (variant : ℕ) (clause : L
   pub stands : parts ≡ before ++ part ∷ following
   pub named : part.number ≡ place.constituent
   pub only : Each (λ other. other.number ≢ place.constituent) (before ++ following)
-  pub facts : List Located
-  pub spelled : ReadsFacts part.number part.text facts
+  pub forms : List Located
+  pub spelled : Spells part.number part.text forms
   pub fact : Located
-  pub among : Among fact facts
+  pub among : Among fact forms
   pub at : fact.place ≡ place
   pub translated : clause ≡ unit_clause fact.form
   pub first_variant : variant ≡ 1
-
-abbrev pub one_part : Bytes → List Part
-one_part body = record { number = 1; text = body } ∷ []
 
 -- ---- the proof of a page
 
 -- The lines are the steps of one derivation from the search inputs. It ends in the clause that shows the terms, each line with a place
 -- cites it rightly, and the evidence of its last clause, computed from its own steps, is evidence for the query under what is shown.
-pub record IsProof (body : Bytes) (facts : List Located) (query : Form) (terms : List Form) (lines : List ProofLine) : Type 0 where
+pub record IsProof (parts : List Part) (facts : List Located) (query : Form) (terms : List Form) (lines : List ProofLine) : Type 0 where
   pub steps : List Step
   pub clauses : List Literals
   pub last : ℕ
@@ -98,27 +91,29 @@ pub record IsProof (body : Bytes) (facts : List Located) (query : Form) (terms :
   pub shown : ShowSteps (search_inputs facts query) steps clauses lines
   pub ends : length clauses ≡ last + 1
   pub concludes : nth clauses last ≡ Some (answer_clause terms)
-  pub cited : (line : ProofLine) (place : Place) → Among line lines → line.place ≡ Some place → Holds (one_part body) place 1 line.clause
+  pub cited : (line : ProofLine) (place : Place) → Among line lines → line.place ≡ Some place → Holds parts place 1 line.clause
   pub proves : (g : Filling) → Closes g
       → IsEvidenceFor (map (λ fact. unit_clause fact.form) facts) (query_clause query ∷ []) (map (bind g) terms ∷ [])
       (evidence (clauses_of (search_inputs facts query)) steps clauses last g)
 
 -- the page of one answer, with its binding and the lines of its proof
-abbrev pub page_of : Bytes → List Pair → List ProofLine → Bytes
-page_of path values lines = answer_text (load_names path) 1 values lines ++ end_text (codes "enough") 1
+abbrev pub page_of : List Part → List Pair → List ProofLine → Bytes
+page_of parts values lines = answer_text (load_names parts) 1 values lines ++ end_text (codes "enough") 1
 
--- The text is the page of the first fact that the query is, and its lines are a proof of just what it shows.
-pub record ShowsProof (words : List Bytes) (contents : List (Bytes × Bytes)) (text : Bytes) : Type 0 where
-  pub asks : Asked
-  pub are : asked words ≡ Some asks
-  pub body : Bytes
-  pub held : body_of contents asks.path ≡ Some body
+-- The words ask a query over files, all of which are there. The text is the page of the first fact in them that the query is, and its lines
+-- are a proof of just what it shows.
+pub record ShowsProof (words : List Bytes) (contents : Contents) (text : Bytes) : Type 0 where
+  pub asked : Asked
+  pub means : Means words (asks asked)
+  pub parts : List Part
+  pub whole : AreWhole contents 1 asked.paths parts
   pub facts : List Located
+  pub spelled : SpellParts parts facts
   pub query : Form
-  pub read : IsRead asks body facts query
+  pub plain : IsPlain asked facts query
   pub number : ℕ
   pub subst : List Pair
   pub first : IsFirstMatch query facts number subst
   pub lines : List ProofLine
-  pub page : text ≡ page_of asks.path (binding query subst) lines
-  pub proof : IsProof body facts query (values query subst) lines
+  pub page : text ≡ page_of parts (binding query subst) lines
+  pub proof : IsProof parts facts query (values query subst) lines

@@ -1,9 +1,31 @@
 -- Laws of the definitions.
-use Rattle.std.specs.Prelude.{◌≡◌, ℕ, List}
-use Rattle.kif_tree.specs.Terms.{Bytes}
-use Rattle.sigma_app.specs.Tool.{Tool}
+use Rattle.std.specs.Prelude.{◌≡◌, Bool, true, false, ◌⊎◌, ℕ, List}
+use Rattle.kif_tree.specs.declared.form.Form.{Form}
+use Rattle.kif_tree.specs.Terms.{Bytes, is_ground, has_no_row}
+use Rattle.kif_tree.specs.Clauses.{is_headed}
+use Rattle.sigma_app.specs.Plain.{is_plain_head, IsPlainAtom}
+use Rattle.sigma_app.specs.Requests.{IsTaken}
+use Rattle.sigma_app.specs.Files.{Contents}
+use Rattle.sigma_app.specs.Tool.{Is, usage, Tool}
 
--- for the same words and files, the status and the text are the same
+abbrev pub SameOutcome : ℕ → ℕ → Bytes → Bytes → Type 0
+SameOutcome status other text page = (status ≡ other) × (text ≡ page)
+
+-- For the same words and files, the status and the text are the same. Only where the parser's promise doesn't take the words there are two
+-- outcomes, and then one of them is the usage.
 abbrev pub ToolIsOne : Type 0
-ToolIsOne = (words : List Bytes) (contents : List (Bytes × Bytes)) (status other : ℕ) (text page : Bytes)
-    → Tool words contents status text → Tool words contents other page → (status ≡ other) × (text ≡ page)
+ToolIsOne = (words : List Bytes) (contents : Contents) (status other : ℕ) (text page : Bytes)
+    → Tool words contents status text → Tool words contents other page
+    → SameOutcome status other text page ⊎ ((IsTaken words → ⊥) × (Is 2 usage status text ⊎ Is 2 usage other page))
+
+-- no variable and no row variable occurs in a plain fact
+abbrev pub FactsAreGround : Type 0
+FactsAreGround = (fact : Form) → IsPlainAtom false fact → is_ground fact ≡ true
+
+-- no row variable occurs in a plain query
+abbrev pub QueriesHaveNoRow : Type 0
+QueriesHaveNoRow = (query : Form) → IsPlainAtom true query → has_no_row query ≡ true
+
+-- a word that is no plain head heads no plain atom
+abbrev pub HeadsArePlain : Type 0
+HeadsArePlain = (variables : Bool) (word : Bytes) (atom : Form) → IsPlainAtom variables atom → is_plain_head word ≡ false → is_headed word atom ≡ false

@@ -1,8 +1,11 @@
+pub mod Commands
 pub mod Evidence
+pub mod Files
 pub mod Laws
 pub mod Matching
 pub mod Page
+pub mod Plain
 pub mod Proof
+pub mod Requests
 pub mod Run
 pub mod Tool
-pub mod Words

@@ -1,12 +1,17 @@
 -- What a run of the tool leaves: the status, the bytes that were appended and the counts of faults.
-use Rattle.std.specs.Prelude.{◌≡◌, ℕ, List, Option, IfSome, MatchOption, ◌⊎◌}
+use Rattle.std.specs.Prelude.{◌≡◌, ℕ, ◌<◌, ◌≤◌, true, false, List, length, Option, Some, None, IfSome, MatchBool, ◌⊎◌}
 use Rattle.std.specs.Io.KnownBytes.{append_known}
 use Rattle.kif_tree.specs.Terms.{Bytes}
 use Rattle.sig_io.specs.Causes.{Rose}
 use Rattle.sig_io.specs.Told.{body_of, WritesPrefix}
-use Rattle.sigma_app.specs.Words.{Asked, asked}
+use Rattle.sigma_app.specs.declared.files.Body.{Body}
+use Rattle.sigma_app.specs.declared.files.Body.TheVariants as body
+use Rattle.sigma_app.specs.declared.files.Fetching.{Fetching}
+use Rattle.sigma_app.specs.declared.files.Fetching.TheVariants.{Found, Stopped}
+use Rattle.sigma_app.specs.Requests.{Asked, Meaning, asks, checks, gives_clauses, exports, drills, Means, IsTaken}
+use Rattle.sigma_app.specs.Files.{Contents, byte_limit, AreWhole, IsReached}
 use Rattle.sigma_app.specs.Evidence.{ShowsProof}
-use Rattle.sigma_app.specs.Tool.{Is, usage, fault_text, OnFile, GivesTool, IsFault}
+use Rattle.sigma_app.specs.Tool.{Is, usage, not_built, is_refused, absent_text, long_text, fault_text, IsAbsent, IsTooLong, OnFiles, OnAsked, Agrees, GivesTool, IsFault}
 
 -- a status that tells of the outside or of memory: a fault of the files, a failed write, want of memory
 abbrev pub IsTrouble : ℕ → Type 0
@@ -16,33 +21,49 @@ IsTrouble status = (status ≡ 4) ⊎ ((status ≡ 8) ⊎ (status ≡ 9))
 abbrev pub IsCutShort : ℕ → Type 0
 IsCutShort status = (status ≡ 8) ⊎ (status ≡ 9)
 
+-- the words may be refused: the parser's promise doesn't take them, or their meaning is refused
+abbrev pub MayBeRefused : List Bytes → Type 0
+MayBeRefused words = (IsTaken words → ⊥) ⊎ ((meaning : Meaning) × Means words meaning × (is_refused meaning ≡ true))
+
+-- the words have to be refused: they have no meaning that isn't
+abbrev pub MustBeRefused : List Bytes → Type 0
+MustBeRefused words = (meaning : Meaning) → Means words meaning → is_refused meaning ≡ true
+
 -- The status and the text are the tool's for contents that agree with those told, and where an answer is shown, so is a proof over these
 -- contents. The whole text was appended.
-pub record Appends (words : List Bytes) (told : Option (List (Bytes × Bytes))) (old new : Option Bytes) (status : ℕ) : Type 0 where
+pub record Appends (words : List Bytes) (told : Option Contents) (old new : Option Bytes) (status : ℕ) : Type 0 where
   pub text : Bytes
   pub gives : GivesTool words told status text
   pub proved : status ≡ 0 → ShowsProof words gives.contents text
   pub appended : new ≡ append_known old text
 
 -- the count of the files rose, and the text that names the file was appended
-pub record ReportsFault (words : List Bytes) (before now : ℕ) (old new : Option Bytes) : Type 0 where
+pub record ReportsFault (words : List Bytes) (told : Option Contents) (before now : ℕ) (old new : Option Bytes) : Type 0 where
   pub rose : Rose before now
+  pub contents : Contents
+  pub agrees : Agrees told contents
   pub text : Bytes
-  pub fault : IsFault words text
+  pub fault : IsFault words contents text
   pub appended : new ≡ append_known old text
 
 -- a text of the tool's own, with the proof of what it shows
-pub record IsOwnText (words : List Bytes) (told : Option (List (Bytes × Bytes))) (status : ℕ) (text : Bytes) : Type 0 where
+pub record IsOwnText (words : List Bytes) (told : Option Contents) (status : ℕ) (text : Bytes) : Type 0 where
   pub gives : GivesTool words told status text
   pub proved : status ≡ 0 → ShowsProof words gives.contents text
 
+-- the text that names a file which could not be fetched
+pub record IsFaultText (words : List Bytes) (told : Option Contents) (text : Bytes) : Type 0 where
+  pub contents : Contents
+  pub agrees : Agrees told contents
+  pub fault : IsFault words contents text
+
 -- a text of another status: the tool's own where the count of the files stayed, that of a fault where it rose
-pub record IsMeant (words : List Bytes) (told : Option (List (Bytes × Bytes))) (before now : ℕ) (text : Bytes) : Type 0 where
+pub record IsMeant (words : List Bytes) (told : Option Contents) (before now : ℕ) (text : Bytes) : Type 0 where
   pub status : ℕ
-  pub either : (IsOwnText words told status text × (now ≡ before)) ⊎ (((status ≡ 4) × IsFault words text) × Rose before now)
+  pub either : (IsOwnText words told status text × (now ≡ before)) ⊎ (((status ≡ 4) × IsFaultText words told text) × Rose before now)
 
 -- nothing was appended, or a prefix of a text of another status
-abbrev pub AppendsPrefix : List Bytes → Option (List (Bytes × Bytes)) → ℕ → ℕ → Option Bytes → Option Bytes → Type 0
+abbrev pub AppendsPrefix : List Bytes → Option Contents → ℕ → ℕ → Option Bytes → Option Bytes → Type 0
 AppendsPrefix words told before now old new = (new ≡ old) ⊎ ((text : Bytes) × IsMeant words told before now text × WritesPrefix old new text)
 
 -- ---- the parts of a run
@@ -50,27 +71,67 @@ AppendsPrefix words told before now old new = (new ≡ old) ⊎ ((text : Bytes) 
 abbrev pub MayHaveRisen : ℕ → ℕ → Type 0
 MayHaveRisen before now = (now ≡ before) ⊎ Rose before now
 
--- refused words fetch nothing
-abbrev pub MayHaveRisenFor : List Bytes → ℕ → ℕ → Type 0
-MayHaveRisenFor words before now = MatchOption (asked words) (now ≡ before) (λ asks. MayHaveRisen before now)
+-- contents that agree with what is told, over which the relation holds
+pub record Over (told : Option Contents) (P : Contents → Type 0) : Type 0 where
+  pub contents : Contents
+  pub agrees : Agrees told contents
+  pub holds : P contents
 
--- the file was found as one that agrees with what is told
-pub record Found (asks : Asked) (told : Option (List (Bytes × Bytes))) (before now status : ℕ) (text : Bytes) : Type 0 where
-  pub body : Option Bytes
-  pub agrees : IfSome told (λ files. body_of files asks.path ≡ body)
+-- the file of the path could not be fetched, and those before it are whole
+pub record Fails (paths : List Bytes) (told : Option Contents) (status : ℕ) (text : Bytes) : Type 0 where
+  pub path : Bytes
+  pub reached : Over told (λ contents. IsReached contents paths path)
+  pub is : Is 4 (fault_text path) status text
+
+-- no fetch failed, and the relation holds over contents that agree; or one failed
+abbrev pub OnFetches : List Bytes → Option Contents → ℕ → ℕ → (Contents → Type 0) → ℕ → Bytes → Type 0
+OnFetches paths told before now P status text = ((now ≡ before) × Over told P) ⊎ (Rose before now × Fails paths told status text)
+
+-- what one fetch gives: a text within the limit, or the reply that ends the work
+abbrev pub FetchesOne : Bytes → Option Contents → ℕ → ℕ → Body → Type 0
+FetchesOne path told before now (body.Text text) = (now ≡ before) × (length text ≤ byte_limit) × IfSome told (λ files. body_of files path ≡ Some text)
+FetchesOne path told before now (body.Stopped reply) =
+    ((now ≡ before) × (Is 3 (absent_text path) reply.status reply.text × IfSome told (λ files. body_of files path ≡ None)))
+    ⊎ (((now ≡ before) × (Is 6 (long_text path) reply.status reply.text × IfSome told (λ files. (bytes : Bytes) × (body_of files path ≡ Some bytes) × (byte_limit < length bytes))))
+    ⊎ (Rose before now × Is 4 (fault_text path) reply.status reply.text))
+
+-- all files were found, or the first that wasn't ended the work
+abbrev pub Fetches : List Bytes → Option Contents → ℕ → ℕ → Fetching → Type 0
+Fetches paths told before now (Found parts) = (now ≡ before) × Over told (λ contents. AreWhole contents 1 paths parts)
+Fetches paths told before now (Stopped reply) =
+    OnFetches paths told before now (λ contents. IsAbsent contents paths reply.status reply.text ⊎ IsTooLong contents paths reply.status reply.text) reply.status reply.text
+
+-- a query over files
+abbrev pub OnAsk : Asked → Option Contents → ℕ → ℕ → ℕ → Bytes → Type 0
+OnAsk asked told before now status text = OnFetches asked.paths told before now (λ contents. OnAsked asked contents status text) status text
+
+abbrev pub OnAskFiles : Asked → Option Contents → ℕ → ℕ → ℕ → Bytes → Type 0
+OnAskFiles asked told before now status text = OnFetches asked.paths told before now (λ contents. OnFiles asked contents status text) status text
+
+-- a request whose words are good
+abbrev pub OnGoodRequest : Meaning → Option Contents → ℕ → ℕ → ℕ → Bytes → Type 0
+OnGoodRequest (asks asked) told before now status text = OnAsk asked told before now status text
+OnGoodRequest (checks paths) told before now status text = (now ≡ before) × Is 10 not_built status text
+OnGoodRequest (gives_clauses paths) told before now status text = (now ≡ before) × Is 10 not_built status text
+OnGoodRequest (exports paths) told before now status text = (now ≡ before) × Is 10 not_built status text
+OnGoodRequest (drills size) told before now status text = (now ≡ before) × Is 10 not_built status text
+
+abbrev pub OnRequest : Meaning → Option Contents → ℕ → ℕ → ℕ → Bytes → Type 0
+OnRequest meaning told before now status text = MatchBool (is_refused meaning) ((now ≡ before) × Is 2 usage status text) (OnGoodRequest meaning told before now status text)
+
+-- the tool's own reply
+pub record IsOwnReply (words : List Bytes) (told : Option Contents) (before now status : ℕ) (text : Bytes) : Type 0 where
   pub quiet : now ≡ before
-  pub on_file : OnFile asks body status text
+  pub gives : GivesTool words told status text
 
-pub record Failed (asks : Asked) (before now status : ℕ) (text : Bytes) : Type 0 where
+-- the reply where a file could not be fetched
+pub record IsFaultReply (words : List Bytes) (told : Option Contents) (before now status : ℕ) (text : Bytes) : Type 0 where
   pub rose : Rose before now
-  pub fault : Is 4 (fault_text asks.path) status text
+  pub four : status ≡ 4
+  pub names : IsFaultText words told text
 
-abbrev pub OnFetch : Asked → Option (List (Bytes × Bytes)) → ℕ → ℕ → ℕ → Bytes → Type 0
-OnFetch asks told before now status text = Found asks told before now status text ⊎ Failed asks before now status text
-
-abbrev pub OnWords : List Bytes → Option (List (Bytes × Bytes)) → ℕ → ℕ → ℕ → Bytes → Type 0
-OnWords words told before now status text =
-    MatchOption (asked words) ((now ≡ before) × Is 2 usage status text) (λ asks. OnFetch asks told before now status text)
+abbrev pub Obtains : List Bytes → Option Contents → ℕ → ℕ → ℕ → Bytes → Type 0
+Obtains words told before now status text = IsOwnReply words told before now status text ⊎ IsFaultReply words told before now status text
 
 pub record PrintsAll (status : ℕ) (text : Bytes) (old new : Option Bytes) (before now result : ℕ) : Type 0 where
   pub is : result ≡ status

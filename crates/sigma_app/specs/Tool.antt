@@ -1,13 +1,21 @@
 -- What the tool answers: a status and a text, from the words and what the files hold.
-use Rattle.std.specs.Prelude.{◌≡◌, ℕ, nat_le, List, [], ◌∷◌, ◌++◌, length, Option, Some, None, MatchOption, MatchBool, IfSome, codes, ◌⊎◌}
+use Rattle.std.specs.Prelude.{◌≡◌, ◌≢◌, ℕ, nat_le, Bool, true, false, ◌||◌, not, List, [], ◌∷◌, ◌++◌, length, Option, Some, None, is_some, MatchBool, IfSome, codes, decimal, ◌⊎◌}
+use Rattle.sigma_base.specs.Lists.{Each}
 use Rattle.kif_tree.specs.declared.form.Form.{Form}
 use Rattle.kif_tree.specs.declared.place.Located.{Located}
-use Rattle.kif_tree.specs.declared.place.LoadName.{LoadName}
 use Rattle.kif_tree.specs.declared.subst.Pair.{Pair}
 use Rattle.kif_tree.specs.Terms.{Bytes}
+use Rattle.kif_reader.specs.declared.bytes.Spot.{Spot}
+use Rattle.kif_reader.specs.declared.kinds.ReadError.{ReadError}
+use Rattle.kif_reader.specs.declared.kinds.ReadError.TheVariants as unread
+use Rattle.kif_reader.specs.Spelling.{Spells, FirstFault}
 use Rattle.sig_io.specs.Told.{body_of}
-use Rattle.kif_reader.specs.Plain.{ReadsFacts, SpellsGoal}
-use Rattle.sigma_app.specs.Words.{Asked, asked}
+use Rattle.sigma_app.specs.Requests.{Asked, Meaning, asks, checks, gives_clauses, exports, drills, Means, IsTaken, stands_twice}
+use Rattle.sigma_app.specs.Plain.{IsPlainAtom}
+use Rattle.sigma_app.specs.declared.files.Part.{Part}
+use Rattle.sigma_app.specs.declared.forms.Reading.{Reading}
+use Rattle.sigma_app.specs.declared.forms.Reading.TheVariants.{Forms, Stopped}
+use Rattle.sigma_app.specs.Files.{Contents, byte_limit, AreWhole, IsReached, live_size, load_names, SpellParts}
 use Rattle.sigma_app.specs.Matching.{IsFirstMatch, HasNoMatchIn, binding}
 use Rattle.sigma_app.specs.Proof.{values, lines_of}
 use Rattle.sigma_app.specs.Page.{answer_text, end_text}
@@ -29,29 +37,75 @@ absent_text path = codes "absent " ++ (path ++ 10 ∷ [])
 abbrev pub fault_text : Bytes → Bytes
 fault_text path = codes "file fault " ++ (path ++ 10 ∷ [])
 
+abbrev pub many_text : ℕ → Bytes
+many_text count = codes "limit files " ++ (decimal count ++ 10 ∷ [])
+
+abbrev pub long_text : Bytes → Bytes
+long_text path = codes "limit file " ++ (path ++ 10 ∷ [])
+
+abbrev pub live_text : ℕ → Bytes
+live_text size = codes "limit live " ++ (decimal size ++ 10 ∷ [])
+
 abbrev pub not_built : Bytes
 not_built = codes "not built\n"
 
--- ---- plain input
+-- the code of a fault and its place; want of memory is none
+abbrev pub fault_in : ReadError → Option (ℕ × Spot)
+fault_in (unread.BadByte spot) = Some (1, spot)
+fault_in (unread.OpenString spot) = Some (2, spot)
+fault_in (unread.OpenList spot) = Some (3, spot)
+fault_in (unread.StrayClose spot) = Some (4, spot)
+fault_in (unread.BadEscape spot) = Some (5, spot)
+fault_in (unread.BadWord spot) = Some (6, spot)
+fault_in (unread.TooDeep spot) = Some (7, spot)
+fault_in (unread.LogicShape spot) = Some (8, spot)
+fault_in unread.NoMemory = None
 
--- the one file is load 1, and its path names it
-abbrev pub load_names : Bytes → List LoadName
-load_names path = record { number = 1; name = path } ∷ []
+-- `syntax CODE NAME:LINE:COLUMN`
+abbrev pub syntax_text : Bytes → ℕ → Spot → Bytes
+syntax_text path code spot =
+    codes "syntax " ++ (decimal code ++ (32 ∷ (path ++ (58 ∷ (decimal spot.line ++ (58 ∷ (decimal spot.column ++ 10 ∷ [])))))))
+
+-- ---- the words
+
+-- the query has more bytes than a text may have, or a path stands twice
+abbrev pub asks_badly : Asked → Bool
+asks_badly asked = not (nat_le (length asked.query) byte_limit) || stands_twice asked.paths
+
+-- the words have a meaning that is refused all the same
+abbrev pub is_refused : Meaning → Bool
+is_refused (asks asked) = asks_badly asked
+is_refused (checks paths) = stands_twice paths
+is_refused (gives_clauses paths) = stands_twice paths
+is_refused (exports paths) = stands_twice paths
+is_refused (drills size) = false
+
+-- an option is given
+abbrev pub has_option : Asked → Bool
+has_option asked = is_some asked.turns || (is_some asked.answers || (is_some asked.kept || is_some asked.mode))
+
+-- ---- one reply
+
+pub record Is (wanted : ℕ) (page : Bytes) (status : ℕ) (text : Bytes) : Type 0 where
+  pub done : status ≡ wanted
+  pub page_is : text ≡ page
+
+-- ---- facts and a query
 
 -- the page of the first fact that answers
-abbrev pub found_page : Bytes → Form → Located → List Pair → Bytes
-found_page path query fact s = answer_text (load_names path) 1 (binding query s) (lines_of query fact (values query s)) ++ end_text (codes "enough") 1
+abbrev pub found_page : List Part → Form → Located → List Pair → Bytes
+found_page parts query fact s = answer_text (load_names parts) 1 (binding query s) (lines_of query fact (values query s)) ++ end_text (codes "enough") 1
 
 -- the page where no fact answers
 abbrev pub none_page : Bytes
 none_page = end_text (codes "saturated") 1
 
-pub record ShowsAnswer (path : Bytes) (facts : List Located) (query : Form) (status : ℕ) (text : Bytes) : Type 0 where
+pub record ShowsAnswer (parts : List Part) (facts : List Located) (query : Form) (status : ℕ) (text : Bytes) : Type 0 where
   pub number : ℕ
   pub subst : List Pair
   pub first : IsFirstMatch query facts number subst
   pub done : status ≡ 0
-  pub page : text ≡ found_page path query first.fact subst
+  pub page : text ≡ found_page parts query first.fact subst
 
 pub record ShowsNone (facts : List Located) (query : Form) (status : ℕ) (text : Bytes) : Type 0 where
   pub none : HasNoMatchIn query facts
@@ -59,56 +113,170 @@ pub record ShowsNone (facts : List Located) (query : Form) (status : ℕ) (text 
   pub page : text ≡ none_page
 
 -- what is shown of facts and a query
-abbrev pub Shows : Bytes → List Located → Form → ℕ → Bytes → Type 0
-Shows path facts query status text = ShowsAnswer path facts query status text ⊎ ShowsNone facts query status text
+abbrev pub Shows : List Part → List Located → Form → ℕ → Bytes → Type 0
+Shows parts facts query status text = ShowsAnswer parts facts query status text ⊎ ShowsNone facts query status text
 
--- the text of the file and the query are read
-pub record IsRead (asks : Asked) (body : Bytes) (facts : List Located) (query : Form) : Type 0 where
-  pub facts_read : ReadsFacts 1 body facts
-  pub query_read : SpellsGoal asks.query query
+-- the form stands alone
+pub record IsOnlyForm (forms : List Located) (form : Form) : Type 0 where
+  pub located : Located
+  pub alone : forms ≡ located ∷ []
+  pub is : located.form ≡ form
 
-pub record Replies (asks : Asked) (body : Bytes) (status : ℕ) (text : Bytes) : Type 0 where
-  pub facts : List Located
+-- the text spells the query, as its one form; it stands in no file, so its number is 0
+pub record SpellsQuery (text : Bytes) (query : Form) : Type 0 where
+  pub located : Located
+  pub spelled : Spells 0 text (located ∷ [])
+  pub is : located.form ≡ query
+
+abbrev pub IsPlainFact : Located → Type 0
+IsPlainFact fact = IsPlainAtom false fact.form
+
+-- the forms are plain facts, and the query is spelled and plain
+pub record IsPlain (asked : Asked) (facts : List Located) (query : Form) : Type 0 where
+  pub plain_facts : Each IsPlainFact facts
+  pub spelled : SpellsQuery asked.query query
+  pub plain_query : IsPlainAtom true query
+
+pub record Replies (asked : Asked) (parts : List Part) (facts : List Located) (status : ℕ) (text : Bytes) : Type 0 where
   pub query : Form
-  pub read : IsRead asks body facts query
-  pub shown : Shows asks.path facts query status text
+  pub plain : IsPlain asked facts query
+  pub shown : Shows parts facts query status text
 
--- the text of the file or the query is not plain
-pub record Declines (asks : Asked) (body : Bytes) (status : ℕ) (text : Bytes) : Type 0 where
-  pub unread : (facts : List Located) (query : Form) → IsRead asks body facts query → ⊥
-  pub done : status ≡ 10
-  pub page : text ≡ not_built
+-- a form or the query is not plain, or the query is not spelled
+pub record Declines (asked : Asked) (facts : List Located) (status : ℕ) (text : Bytes) : Type 0 where
+  pub not_plain : (query : Form) → IsPlain asked facts query → ⊥
+  pub is : Is 10 not_built status text
 
--- over the text of the file
-abbrev pub OnBody : Asked → Bytes → ℕ → Bytes → Type 0
-OnBody asks body status text = Replies asks body status text ⊎ Declines asks body status text
+-- over the forms of all files
+abbrev pub OnForms : Asked → List Part → List Located → ℕ → Bytes → Type 0
+OnForms asked parts facts status text = Replies asked parts facts status text ⊎ Declines asked facts status text
+
+-- ---- the texts of the files
+
+-- the text of the part has a fault
+pub record IsFaulty (part : Part) (status : ℕ) (text : Bytes) : Type 0 where
+  pub error : ReadError
+  pub code : ℕ
+  pub spot : Spot
+  pub fault : FirstFault part.number part.text error
+  pub at : fault_in error ≡ Some (code, spot)
+  pub is : Is 5 (syntax_text part.name code spot) status text
+
+-- the part is the first whose text has a fault
+pub record HasFault (parts : List Part) (status : ℕ) (text : Bytes) : Type 0 where
+  pub earlier : List Part
+  pub part : Part
+  pub later : List Part
+  pub stands : parts ≡ earlier ++ part ∷ later
+  pub forms : List Located
+  pub spelled : SpellParts earlier forms
+  pub faulty : IsFaulty part status text
+
+pub record AreSpelled (asked : Asked) (parts : List Part) (status : ℕ) (text : Bytes) : Type 0 where
+  pub facts : List Located
+  pub spelled : SpellParts parts facts
+  pub on_forms : OnForms asked parts facts status text
+
+-- over the texts of the files
+abbrev pub OnTexts : Asked → List Part → ℕ → Bytes → Type 0
+OnTexts asked parts status text = HasFault parts status text ⊎ AreSpelled asked parts status text
+
+-- the greatest number of bytes of all texts together
+abbrev pub live_limit : ℕ
+live_limit = 67108864
+
+abbrev pub OnParts : Asked → List Part → ℕ → Bytes → Type 0
+OnParts asked parts status text = MatchBool (nat_le (live_size parts) live_limit) (OnTexts asked parts status text) (Is 6 (live_text (live_size parts)) status text)
+
+-- what the reading of one part gives
+abbrev pub ReadsPart : Part → Reading → Type 0
+ReadsPart part (Forms forms) = Spells part.number part.text forms.items
+ReadsPart part (Stopped reply) = IsFaulty part reply.status reply.text
+
+-- what the reading of the parts gives
+abbrev pub ReadsParts : List Part → Reading → Type 0
+ReadsParts parts (Forms forms) = SpellParts parts forms.items
+ReadsParts parts (Stopped reply) = HasFault parts reply.status reply.text
+
+-- ---- the files
+
+-- the first file that isn't found whole is absent
+pub record IsAbsent (contents : Contents) (paths : List Bytes) (status : ℕ) (text : Bytes) : Type 0 where
+  pub path : Bytes
+  pub reached : IsReached contents paths path
+  pub absent : body_of contents path ≡ None
+  pub is : Is 3 (absent_text path) status text
+
+-- the first file that isn't found whole has too many bytes
+pub record IsTooLong (contents : Contents) (paths : List Bytes) (status : ℕ) (text : Bytes) : Type 0 where
+  pub path : Bytes
+  pub reached : IsReached contents paths path
+  pub body : Bytes
+  pub held : body_of contents path ≡ Some body
+  pub long : nat_le (length body) byte_limit ≡ false
+  pub is : Is 6 (long_text path) status text
+
+pub record AreFound (asked : Asked) (contents : Contents) (status : ℕ) (text : Bytes) : Type 0 where
+  pub parts : List Part
+  pub whole : AreWhole contents 1 asked.paths parts
+  pub on_parts : OnParts asked parts status text
+
+abbrev pub OnFiles : Asked → Contents → ℕ → Bytes → Type 0
+OnFiles asked contents status text = IsAbsent contents asked.paths status text ⊎ (IsTooLong contents asked.paths status text ⊎ AreFound asked contents status text)
 
 -- ---- the whole tool
 
-pub record Is (wanted : ℕ) (page : Bytes) (status : ℕ) (text : Bytes) : Type 0 where
-  pub done : status ≡ wanted
-  pub page_is : text ≡ page
+-- the greatest number of files
+abbrev pub file_limit : ℕ
+file_limit = 64
 
--- of a file as it is found: not at all, with too many bytes, or whole
-abbrev pub OnFile : Asked → Option Bytes → ℕ → Bytes → Type 0
-OnFile asks None status text = Is 3 (absent_text asks.path) status text
-OnFile asks (Some body) status text = MatchBool (nat_le (length body) 8388608) (OnBody asks body status text) (Is 10 not_built status text)
+-- a query over files, by the order of work: options, the number of files, and then what the files hold
+abbrev pub OnAsked : Asked → Contents → ℕ → Bytes → Type 0
+OnAsked asked contents status text =
+    MatchBool (has_option asked) (Is 10 not_built status text)
+    (MatchBool (nat_le (length asked.paths) file_limit) (OnFiles asked contents status text) (Is 6 (many_text (length asked.paths)) status text))
 
--- the status and the text of the tool for the words, where the files hold these contents
-abbrev pub Tool : List Bytes → List (Bytes × Bytes) → ℕ → Bytes → Type 0
-Tool words contents status text = MatchOption (asked words) (Is 2 usage status text) (λ asks. OnFile asks (body_of contents asks.path) status text)
+-- the other commands are not built
+abbrev pub OnBuilt : Meaning → Contents → ℕ → Bytes → Type 0
+OnBuilt (asks asked) contents status text = OnAsked asked contents status text
+OnBuilt (checks paths) contents status text = Is 10 not_built status text
+OnBuilt (gives_clauses paths) contents status text = Is 10 not_built status text
+OnBuilt (exports paths) contents status text = Is 10 not_built status text
+OnBuilt (drills size) contents status text = Is 10 not_built status text
 
--- the text where the file could not be fetched
-pub record IsFault (words : List Bytes) (text : Bytes) : Type 0 where
-  pub asks : Asked
-  pub are : asked words ≡ Some asks
-  pub page : text ≡ fault_text asks.path
+-- what words with this meaning get
+abbrev pub OnMeaning : Meaning → Contents → ℕ → Bytes → Type 0
+OnMeaning meaning contents status text = MatchBool (is_refused meaning) (Is 2 usage status text) (OnBuilt meaning contents status text)
+
+pub record HasMeaning (words : List Bytes) (contents : Contents) (status : ℕ) (text : Bytes) : Type 0 where
+  pub meaning : Meaning
+  pub means : Means words meaning
+  pub on_meaning : OnMeaning meaning contents status text
+
+-- the parser's promise doesn't take the words
+pub record AreNotTaken (words : List Bytes) (status : ℕ) (text : Bytes) : Type 0 where
+  pub not_taken : IsTaken words → ⊥
+  pub is : Is 2 usage status text
+
+-- The status and the text of the tool for the words, where the files hold these contents: what the meaning of the words gets, and for words
+-- that the parser's promise doesn't take also the usage.
+abbrev pub Tool : List Bytes → Contents → ℕ → Bytes → Type 0
+Tool words contents status text = HasMeaning words contents status text ⊎ AreNotTaken words status text
+
+-- the text where a file could not be fetched, before which all files are whole
+pub record IsFault (words : List Bytes) (contents : Contents) (text : Bytes) : Type 0 where
+  pub asked : Asked
+  pub means : Means words (asks asked)
+  pub good : is_refused (asks asked) ≡ false
+  pub path : Bytes
+  pub reached : IsReached contents asked.paths path
+  pub page : text ≡ fault_text path
 
 -- contents that are those told, where the files tell
-abbrev pub Agrees : Option (List (Bytes × Bytes)) → List (Bytes × Bytes) → Type 0
+abbrev pub Agrees : Option Contents → Contents → Type 0
 Agrees told contents = IfSome told (λ files. files ≡ contents)
 
-pub record GivesTool (words : List Bytes) (told : Option (List (Bytes × Bytes))) (status : ℕ) (text : Bytes) : Type 0 where
-  pub contents : List (Bytes × Bytes)
+pub record GivesTool (words : List Bytes) (told : Option Contents) (status : ℕ) (text : Bytes) : Type 0 where
+  pub contents : Contents
   pub agrees : Agrees told contents
   pub tool : Tool words contents status text

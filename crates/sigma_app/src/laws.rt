@@ -1,7 +1,16 @@
 //! Laws of the definitions, each as the contract of a function without a body.
 ghost use Rattle.sigma_app.specs.Laws as laws;
 
-/// The tool gives one status and one text for the same words and files.
+/// The tool gives one status and one text for the same words and files. For words that the promise of the parser of command lines doesn't
+/// take, the other outcome is the usage.
 pub fn one_outcome_law()
     ensures { laws.ToolIsOne }
+{}
+
+/// What is plain has nothing that the layers above treat in another way: facts are ground, no row variable occurs, and no
+/// logical word, no `equal`, no head of a shown form and no function's name stands at a head.
+pub fn plain_atom_law()
+    ensures facts { laws.FactsAreGround }
+    ensures queries { laws.QueriesHaveNoRow }
+    ensures heads { laws.HeadsArePlain }
 {}

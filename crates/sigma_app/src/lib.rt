@@ -1,15 +1,18 @@
 //! The top calls: the command-line tool over any files and any sink.
 #![tactic(auto)]
 
+mod commands;
+mod files;
+mod forms;
 mod laws;
 mod matching;
 mod page;
+mod plain;
 mod proof;
+mod reply;
+mod requests;
 mod tool;
-mod words;
 
-pub use laws::one_outcome_law;
+pub use laws::{one_outcome_law, plain_atom_law};
 pub use tool::run_tool;
 
-#[cfg(test)]
-mod tests;

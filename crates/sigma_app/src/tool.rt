@@ -1,20 +1,24 @@
 //! The tool: from the words of a command line to a status and a printed text.
-ghost use Rattle.std.specs.Prelude.{◌≡◌, ◌≢◌, ◌↔◌, ◌⊎◌, ◌≤◌, ◌++◌, ◌∷◌, [], length, IfOk, OnErr, None};
-ghost use Rattle.std.specs.Io.KnownBytes.{append_known};
+ghost use Rattle.std.specs.Prelude.{◌≡◌, ◌≢◌, ◌⊎◌, ◌≤◌, true, false, length, IfOk, OnErr};
+ghost use Rattle.sigma_base.specs.Lists.{Each};
 ghost use Rattle.sig_io.specs.Causes.{Rose};
-ghost use Rattle.sig_io.specs.Told.{WritesPrefix};
-ghost use Rattle.sigma_app.specs.Matching.{IsFlat, IsFirstMatch};
-ghost use Rattle.sigma_app.specs.Words as spec_words;
+ghost use Rattle.sigma_app.specs.Matching.{IsFlat};
+ghost use Rattle.sigma_app.specs.Plain.{IsPlainAtom};
+ghost use Rattle.sigma_app.specs.Files as files_spec;
+ghost use Rattle.sigma_app.specs.Requests as requests;
 ghost use Rattle.sigma_app.specs.Tool as spec;
 ghost use Rattle.sigma_app.specs.Run as run;
 
+use crate::files::{BYTE_LIMIT, Fetching, Part, fetch_files, live_size};
+use crate::forms::{Reading, read_parts, read_query};
 use crate::matching::{binding_of, first_match};
 use crate::page::{append_answer, append_end};
+use crate::plain::are_plain_facts;
 use crate::proof::proof_lines;
-use crate::words::{Ask, BYTE_LIMIT, asked_of};
-use kif_reader::{FactsError, read_facts, read_goal};
+use crate::reply::{Reply, fixed_reply, limit_reply};
+use crate::requests::{Ask, Request, WordsError, has_twice, request_of};
 use kif_tree::{Form, LoadName, Located, Subst, Text};
-use sig_io::{FetchError, Fetched, Files, Sink, Words, WriteError, write_all};
+use sig_io::{Files, Sink, Words, WriteError, write_all};
 use sigma_base::{Listed, NoMemory};
 use std::alloc::Global;
 
@@ -27,53 +31,41 @@ const USAGE: &[u8] =
        sigma serve --port P --workers N --store FILE
 ";
 
-/// A status and the text that is printed with it.
-#[derive(Debug, Drop)]
-struct Reply {
-    status: u8,
-    text: Text,
-}
-
-fn fixed_reply(alloc: Global, status: u8, text: &[u8]) -> Result<Reply, NoMemory>
-    ensures { IfOk result (λ reply. spec.Is status text.now reply.status reply.text) }
+fn not_built(alloc: Global) -> Result<Reply, NoMemory>
+    ensures { IfOk result (λ reply. spec.Is 10 spec.not_built reply.status reply.text) }
 {
-    Ok(Reply {
-        status,
-        text: Text::of(alloc, text)?,
-    })
+    fixed_reply(alloc, 10, b"not built\n")
 }
 
-/// The words, the path and the end of the line.
-fn path_reply(alloc: Global, status: u8, words: &[u8], path: &str) -> Result<Reply, NoMemory>
-    ensures { IfOk result (λ reply. spec.Is status (words.now ++ (path.now ++ 10 ∷ [])) reply.status reply.text) }
+fn usage(alloc: Global) -> Result<Reply, NoMemory>
+    ensures { IfOk result (λ reply. spec.Is 2 spec.usage reply.status reply.text) }
 {
-    let mut text = Text::of(alloc, words)?;
-    text.append(path.as_bytes())?;
-    text.push(b'\n')?;
-    Ok(Reply { status, text })
+    fixed_reply(alloc, 2, USAGE)
 }
 
-fn load_names(alloc: Global, path: &str) -> Result<Listed<LoadName>, NoMemory>
-    ensures { IfOk result (λ names. names ≡ spec.load_names path.now) }
+fn load_names(alloc: Global, parts: &[Part]) -> Result<Listed<LoadName>, NoMemory>
+    ensures { IfOk result (λ names. names ≡ files_spec.load_names parts.now) }
 {
     let mut names = Listed::new(alloc);
-    names.push(LoadName {
-        number: 1,
-        name: Text::of(alloc, path.as_bytes())?,
-    })?;
+    for part in parts {
+        names.push(LoadName {
+            number: part.number,
+            name: part.name.copy(alloc)?,
+        })?;
+    }
     Ok(names)
 }
 
 fn found_page(
     alloc: Global,
-    path: &str,
+    parts: &[Part],
     query: &Form,
     fact: &Located,
     subst: &Subst,
 ) -> Result<Text, NoMemory>
-    ensures { IfOk result (λ page. page ≡ spec.found_page path.now query.now fact.now subst.now.pairs) }
+    ensures { IfOk result (λ page. page ≡ spec.found_page parts.now query.now fact.now subst.now.pairs) }
 {
-    let names = load_names(alloc, path)?;
+    let names = load_names(alloc, parts)?;
     let values = binding_of(alloc, query, subst)?;
     let lines = proof_lines(alloc, query, fact, values.items())?;
     let mut page = Text::new(alloc);
@@ -98,14 +90,14 @@ fn none_page(alloc: Global) -> Result<Text, NoMemory>
 }
 
 /// What is shown of facts and a query.
-fn shown(alloc: Global, path: &str, facts: &[Located], query: &Form) -> Result<Reply, NoMemory>
+fn shown(alloc: Global, parts: &[Part], facts: &[Located], query: &Form) -> Result<Reply, NoMemory>
     requires { IsFlat query.now }
-    ensures { IfOk result (λ reply. spec.Shows path.now facts.now query.now reply.status reply.text) }
+    ensures { IfOk result (λ reply. spec.Shows parts.now facts.now query.now reply.status reply.text) }
 {
     match first_match(alloc, query, facts)? {
         Some(found) => Ok(Reply {
             status: 0,
-            text: found_page(alloc, path, query, &facts[found.number], &found.subst)?,
+            text: found_page(alloc, parts, query, &facts[found.number], &found.subst)?,
         }),
         None => Ok(Reply {
             status: 1,
@@ -114,48 +106,129 @@ fn shown(alloc: Global, path: &str, facts: &[Located], query: &Form) -> Result<R
     }
 }
 
-/// The reply to a query over the text of the file.
-fn body_reply(alloc: Global, ask: Ask<'_>, body: &[u8]) -> Result<Reply, NoMemory>
-    requires { length body.now ≤ 8388608 }
-    ensures { IfOk result (λ reply. spec.OnBody (spec_words.asked_value ask.entry) body.now reply.status reply.text) }
+/// The reply over the forms of all files.
+fn forms_reply(
+    alloc: Global,
+    ask: &Ask<'_>,
+    parts: &[Part],
+    facts: &[Located],
+) -> Result<Reply, NoMemory>
+    requires { length ask.now.query.now ≤ 8388608 }
+    ensures { IfOk result (λ reply. spec.OnForms (requests.asked_value ask.now) parts.now facts.now reply.status reply.text) }
 {
-    let query = match read_goal(alloc, ask.query.as_bytes()) {
-        Ok(query) => query,
-        Err(FactsError::NotPlain) => return fixed_reply(alloc, 10, b"not built\n"),
-        Err(FactsError::NoMemory) => return Err(NoMemory),
-    };
-    let facts = match read_facts(alloc, body, 1) {
-        Ok(facts) => facts,
-        Err(FactsError::NotPlain) => return fixed_reply(alloc, 10, b"not built\n"),
-        Err(FactsError::NoMemory) => return Err(NoMemory),
-    };
-    shown(alloc, ask.path, facts.as_slice(), &query)
+    if !are_plain_facts(facts) {
+        return not_built(alloc);
+    }
+    match read_query(alloc, ask.query.as_bytes())? {
+        Some(query) => shown(alloc, parts, facts, &query),
+        None => not_built(alloc),
+    }
 }
 
-/// The reply to a query over the file that is named.
-fn file_reply<F: Files>(alloc: Global, ask: Ask<'_>, files: &mut F) -> Result<Reply, NoMemory>
+/// The reply over the texts of the files.
+fn texts_reply(alloc: Global, ask: &Ask<'_>, parts: &[Part]) -> Result<Reply, NoMemory>
+    requires query { length ask.now.query.now ≤ 8388608 }
+    requires short { files_spec.AreShort parts.now }
+    ensures { IfOk result (λ reply. spec.OnTexts (requests.asked_value ask.now) parts.now reply.status reply.text) }
+{
+    match read_parts(alloc, parts)? {
+        Reading::Forms(facts) => forms_reply(alloc, ask, parts, facts.as_slice()),
+        Reading::Stopped(reply) => Ok(reply),
+    }
+}
+
+/// The reply over the parts that the files make.
+fn parts_reply(alloc: Global, ask: &Ask<'_>, parts: &[Part]) -> Result<Reply, NoMemory>
+    requires query { length ask.now.query.now ≤ 8388608 }
+    requires short { files_spec.AreShort parts.now }
+    requires few { length parts.now ≤ 64 }
+    ensures { IfOk result (λ reply. spec.OnParts (requests.asked_value ask.now) parts.now reply.status reply.text) }
+{
+    let size = live_size(parts);
+    if size > 67_108_864 {
+        return limit_reply(alloc, b"limit live ", size);
+    }
+    texts_reply(alloc, ask, parts)
+}
+
+/// The reply to a query over the files that are named.
+fn files_reply<F: Files>(alloc: Global, ask: &Ask<'_>, files: &mut F) -> Result<Reply, NoMemory>
+    requires query { length ask.now.query.now ≤ 8388608 }
+    requires few { length ask.now.files.items ≤ 64 }
+    requires apart { requests.stands_twice (requests.texts ask.now.files.items) ≡ false }
     ensures told { F.told files.new ≡ F.told files.old }
-    ensures reply { IfOk result (λ reply. run.OnFetch (spec_words.asked_value ask.entry) (F.told files.old) (F.faults files.old) (F.faults files.new) reply.status reply.text) }
+    ensures reply { IfOk result (λ reply. run.OnAskFiles (requests.asked_value ask.now) (F.told files.old) (F.faults files.old) (F.faults files.new) reply.status reply.text) }
     ensures cause { OnErr result (run.MayHaveRisen (F.faults files.old) (F.faults files.new)) }
 {
-    let mut body = Vec::new(alloc);
-    match files.fetch(ask.path, BYTE_LIMIT, &mut body) {
-        Ok(Fetched::Whole) => body_reply(alloc, ask, body.as_slice()),
-        Ok(Fetched::Absent) => path_reply(alloc, 3, b"absent ", ask.path),
-        Ok(Fetched::TooLong) => fixed_reply(alloc, 10, b"not built\n"),
-        Err(FetchError::Failed) => path_reply(alloc, 4, b"file fault ", ask.path),
-        Err(FetchError::NoMemory) => Err(NoMemory),
+    match fetch_files(alloc, ask.files.as_slice(), files)? {
+        Fetching::Found(parts) => parts_reply(alloc, ask, parts.items()),
+        Fetching::Stopped(reply) => Ok(reply),
+    }
+}
+
+fn has_option(ask: &Ask<'_>) -> bool
+    ensures { result ≡ spec.has_option (requests.asked_value ask.now) }
+{
+    ask.turns.is_some() || ask.answers.is_some() || ask.kept.is_some() || ask.mode.is_some()
+}
+
+/// The reply to a query whose words are good.
+fn ask_reply<F: Files>(alloc: Global, ask: &Ask<'_>, files: &mut F) -> Result<Reply, NoMemory>
+    requires good { spec.asks_badly (requests.asked_value ask.now) ≡ false }
+    ensures told { F.told files.new ≡ F.told files.old }
+    ensures reply { IfOk result (λ reply. run.OnAsk (requests.asked_value ask.now) (F.told files.old) (F.faults files.old) (F.faults files.new) reply.status reply.text) }
+    ensures cause { OnErr result (run.MayHaveRisen (F.faults files.old) (F.faults files.new)) }
+{
+    if has_option(ask) {
+        return not_built(alloc);
+    }
+    let count = ask.files.len();
+    if count > 64 {
+        return limit_reply(alloc, b"limit files ", count as u64);
+    }
+    files_reply(alloc, ask, files)
+}
+
+/// The words are refused although they have a meaning: the query is too long, or a path stands twice.
+fn is_refused(alloc: Global, request: &Request<'_>) -> Result<bool, NoMemory>
+    ensures { IfOk result (λ refused. refused ≡ spec.is_refused (requests.meaning_of request.now)) }
+{
+    match request {
+        Request::Ask(ask) => {
+            Ok(ask.query.len() > BYTE_LIMIT || has_twice(alloc, ask.files.as_slice())?)
+        }
+        Request::Check(files) | Request::Clauses(files) | Request::Export(files) => {
+            has_twice(alloc, files.as_slice())
+        }
+        Request::Drill(_) => Ok(false),
+    }
+}
+
+fn request_reply<F: Files>(alloc: Global, request: &Request<'_>, files: &mut F) -> Result<Reply, NoMemory>
+    ensures told { F.told files.new ≡ F.told files.old }
+    ensures reply { IfOk result (λ reply. run.OnRequest (requests.meaning_of request.now) (F.told files.old) (F.faults files.old) (F.faults files.new) reply.status reply.text) }
+    ensures cause { OnErr result (run.MayHaveRisen (F.faults files.old) (F.faults files.new)) }
+    ensures unread { spec.is_refused (requests.meaning_of request.now) ≡ true → F.faults files.new ≡ F.faults files.old }
+{
+    if is_refused(alloc, request)? {
+        return usage(alloc);
+    }
+    match request {
+        Request::Ask(ask) => ask_reply(alloc, ask, files),
+        _ => not_built(alloc),
     }
 }
 
 fn reply_to<F: Files>(alloc: Global, words: &Words, files: &mut F) -> Result<Reply, NoMemory>
     ensures told { F.told files.new ≡ F.told files.old }
-    ensures reply { IfOk result (λ reply. run.OnWords words.now (F.told files.old) (F.faults files.old) (F.faults files.new) reply.status reply.text) }
-    ensures cause { OnErr result (run.MayHaveRisenFor words.now (F.faults files.old) (F.faults files.new)) }
+    ensures reply { IfOk result (λ reply. run.Obtains words.now (F.told files.old) (F.faults files.old) (F.faults files.new) reply.status reply.text) }
+    ensures cause { OnErr result (run.MayHaveRisen (F.faults files.old) (F.faults files.new)) }
+    ensures unread { run.MustBeRefused words.now → F.faults files.new ≡ F.faults files.old }
 {
-    match asked_of(words) {
-        Some(ask) => file_reply(alloc, ask, files),
-        None => fixed_reply(alloc, 2, USAGE),
+    match request_of(alloc, words) {
+        Ok(request) => request_reply(alloc, &request, files),
+        Err(WordsError::Usage) => usage(alloc),
+        Err(WordsError::NoMemory) => Err(NoMemory),
     }
 }
 
@@ -170,20 +243,20 @@ fn print_reply<S: Sink>(out: &mut S, reply: &Reply) -> u8
 }
 
 /// Does what the words ask, with files from `files`, and prints to `out`. The answer is the status: 0 an answer is shown,
-/// 1 none is, 2 the words are refused, 3 the file is absent, 4 it could not be fetched, 8 a write failed, 9 want of memory,
-/// 10 the file is too long, or its text or the query isn't plain.
+/// 1 none is, 2 the words are refused, 3 a file is absent, 4 one could not be fetched, 5 a text has a fault, 6 a limit is passed,
+/// 8 a write failed, 9 want of memory, 10 what the words, the files or the query ask is not built.
 pub fn run_tool<F: Files, S: Sink>(alloc: Global, words: &Words, files: &mut F, out: &mut S) -> u8
     // There are contents, those that the files tell where they tell, for which the status and the text are the tool's. An answer that
     // is shown has a proof: a derivation that ends in just what is shown, whose cited lines hold its premises and whose evidence refutes.
     ensures answered { run.IsTrouble result ⊎ run.Appends words.now (F.told files.old) (S.told out.old) (S.told out.new) result }
 
-    // The words are refused exactly so.
-    ensures usage { result ≡ 2 → spec_words.asked words.now ≡ None }
-    ensures refused { spec_words.asked words.now ≡ None → (result ≡ 2) ⊎ run.IsCutShort result }
-    ensures unread { spec_words.asked words.now ≡ None → F.faults files.new ≡ F.faults files.old }
+    // When the words are refused.
+    ensures usage { result ≡ 2 → run.MayBeRefused words.now }
+    ensures refused { run.MustBeRefused words.now → (result ≡ 2) ⊎ run.IsCutShort result }
+    ensures unread { run.MustBeRefused words.now → F.faults files.new ≡ F.faults files.old }
 
     // What the counts of faults tell.
-    ensures file_fault { result ≡ 4 → run.ReportsFault words.now (F.faults files.old) (F.faults files.new) (S.told out.old) (S.told out.new) }
+    ensures file_fault { result ≡ 4 → run.ReportsFault words.now (F.told files.old) (F.faults files.old) (F.faults files.new) (S.told out.old) (S.told out.new) }
     ensures file_cause { (F.faults files.new ≡ F.faults files.old) ⊎ (Rose (F.faults files.old) (F.faults files.new) × run.IsTrouble result) }
     ensures write_fault { result ≡ 8 → Rose (S.faults out.old) (S.faults out.new) }
     ensures write_cause { result ≢ 8 → S.faults out.new ≡ S.faults out.old }

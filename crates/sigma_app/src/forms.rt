@@ -1,0 +1,91 @@
+//! The forms of the parts, and the form of the query.
+ghost use Rattle.std.specs.Prelude.{◌≡◌, ◌≤◌, ◌++◌, ◌∷◌, [], true, length, IfOk, OnOk, MatchOption};
+ghost use Rattle.kif_tree.specs.declared.place.Located.{Located};
+ghost use Rattle.kif_tree.specs.declared.form.Form.{Form};
+ghost use Rattle.sigma_app.specs.Files as files;
+ghost use Rattle.sigma_app.specs.Plain.{IsPlainAtom};
+ghost use Rattle.sigma_app.specs.Tool as spec;
+
+use crate::files::Part;
+use crate::plain::is_plain_atom;
+use crate::reply::{Reply, fault_at, syntax_reply};
+use kif_reader::read_forms;
+use kif_tree::{Form, Located};
+use sigma_base::NoMemory;
+use std::alloc::Global;
+
+/// The forms of all parts, or the reply to the first text that has a fault.
+#[derive(Debug, Drop)]
+pub enum Reading {
+    Forms(Vec<Located>),
+    Stopped(Reply),
+}
+
+/// The forms of one part.
+fn read_part(alloc: Global, part: &Part) -> Result<Reading, NoMemory>
+    requires { length part.now.text ≤ 8388608 }
+    ensures { IfOk result (λ reading. spec.ReadsPart part.now reading) }
+{
+    let error = match read_forms(alloc, part.text.bytes(), part.number) {
+        Ok(forms) => return Ok(Reading::Forms(forms)),
+        Err(error) => error,
+    };
+    match fault_at(error) {
+        Some((code, spot)) => Ok(Reading::Stopped(syntax_reply(
+            alloc,
+            part.name.bytes(),
+            code,
+            spot,
+        )?)),
+        None => Err(NoMemory),
+    }
+}
+
+/// The forms of the parts in order. The first text with a fault ends the work.
+pub fn read_parts(alloc: Global, parts: &[Part]) -> Result<Reading, NoMemory>
+    requires { files.AreShort parts.now }
+    ensures { IfOk result (λ reading. spec.ReadsParts parts.now reading) }
+{
+    let mut forms = Vec::new(alloc);
+    for part in parts {
+        match read_part(alloc, part)? {
+            Reading::Forms(mut more) => forms.append(&mut more)?,
+            Reading::Stopped(reply) => return Ok(Reading::Stopped(reply)),
+        }
+    }
+    Ok(Reading::Forms(forms))
+}
+
+/// The form, where it is the only one and a plain atom with variables.
+fn only_plain(mut forms: Vec<Located>) -> Option<Form>
+    ensures { MatchOption result
+        ((located : Located) → forms.items ≡ located ∷ [] → IsPlainAtom true located.form → ⊥)
+        (λ query. spec.IsOnlyForm forms.items query × IsPlainAtom true query) }
+{
+    if forms.len() != 1 {
+        return None;
+    }
+    let located = forms.pop()?;
+    if is_plain_atom(&located.form, true) {
+        Some(located.form)
+    } else {
+        None
+    }
+}
+
+/// The query, where the text spells one form and that is a plain atom with variables.
+pub fn read_query(alloc: Global, text: &[u8]) -> Result<Option<Form>, NoMemory>
+    requires { length text.now ≤ 8388608 }
+    ensures { IfOk result (λ found. MatchOption found
+        ((query : Form) → spec.SpellsQuery text.now query → IsPlainAtom true query → ⊥)
+        (λ query. spec.SpellsQuery text.now query × IsPlainAtom true query)) }
+{
+    let error = match read_forms(alloc, text, 0) {
+        Ok(forms) => return Ok(only_plain(forms)),
+        Err(error) => error,
+    };
+    match fault_at(error) {
+        Some(_) => Ok(None),
+        None => Err(NoMemory),
+    }
+}
