@@ -12,17 +12,17 @@ use Rattle.kif_reader.specs.declared.kinds.Fault.TheVariants as faults
 use Rattle.kif_reader.proofs.UniqueLaws.{Class, CChunk, CQuoted, both, escaped_first, escaped_same, run_unique, Front, chunk_front, piece_front, class, class_of, class_of_kind, as_chunk, as_quoted}
 
 -- the first byte of a piece may stand outside of strings and comments
-record Outside (bytes : List ℕ) : Type 0 where
-  byte : ℕ
-  more : List ℕ
-  split : bytes ≡ byte ∷ more
-  outside : is_outside byte ≡ true
+pub record Outside (bytes : List ℕ) : Type 0 where
+  pub byte : ℕ
+  pub more : List ℕ
+  pub split : bytes ≡ byte ∷ more
+  pub outside : is_outside byte ≡ true
 
 chunk_outside : (bytes follow : List ℕ) → IsChunk bytes follow → Outside bytes
 chunk_outside [] follow is = absurd (omega (arith, is.some))
 chunk_outside (x ∷ xs) follow is = let h = (both (is_chunk_byte x) (list_all is_chunk_byte xs) is.all).0 in record { byte = x; more = xs; split = refl; outside = grind (arith, h) }
 
-piece_outside : (p : Piece) (follow : List ℕ) → Stands p follow → Outside (bytes_of p)
+pub piece_outside : (p : Piece) (follow : List ℕ) → Stands p follow → Outside (bytes_of p)
 piece_outside (Blank byte) follow is = record { byte = byte; more = []; split = refl; outside = grind (arith, is) }
 piece_outside (Comment body) follow is = record { byte = 59; more = body; split = refl; outside = refl }
 piece_outside (Lexeme Left bytes) follow is = record { byte = 40; more = []; split = is; outside = refl }

@@ -118,6 +118,10 @@ shaped_all : (forms : List Located) → Each (λ form. first_form_fault form ≡
 shaped_all [] faultless answerless = tt
 shaped_all (f ∷ fs) faultless answerless = ((λ i. is_none (faultless.0 i) && not (answerless.0 i)), shaped_all fs faultless.1 answerless.1)
 
+-- no form that a text spells has a fault of shape
+pub spelled_faultless : (c : ℕ) (text : List ℕ) (forms : List Located) → Spells c text forms → Each (λ form. first_form_fault form ≡ None) (forms_of forms)
+spelled_faultless c text forms is = tops_faultless 0 (forms_of forms) is.shaped
+
 -- each form that a text spells has its shape
 pub spelled_shaped : (c : ℕ) (text : List ℕ) (forms : List Located) → Spells c text forms → Each (λ (located : Located). is_shaped located.form ≡ true) forms
-spelled_shaped c text forms is = shaped_all forms (tops_faultless 0 (forms_of forms) is.shaped) (spelled_no_answer c text forms is.tokens is.spelled)
+spelled_shaped c text forms is = shaped_all forms (spelled_faultless c text forms is) (spelled_no_answer c text forms is.tokens is.spelled)
