@@ -21,7 +21,7 @@ use Rattle.kif_reader.specs.Spelling.{Lexed, tokens_of, level, bare, BeginsAt, s
 use Rattle.kif_reader.specs.declared.kinds.TokenKind.{TokenKind}
 use Rattle.kif_reader.specs.declared.kinds.TokenKind.TheVariants.{Left, Right, Word, Variable, Row, Numeral, Quoted}
 use Rattle.kif_reader.proofs.FaultLaws.{piece_outside}
-use Rattle.kif_reader.proofs.LevelLaws.{bare_level, level_bare, spelled_nest}
+use Rattle.kif_reader.proofs.NestLaws.{bare_level, level_bare, spelled_nest}
 use Rattle.kif_reader.proofs.ReadLaws.{tokens-append, stand-append}
 use Rattle.kif_reader.proofs.SpellableLaws.{spelled_spellable, parts_spellable, spelled_faultless}
 use Rattle.kif_reader.proofs.SpellingLaws.{spelling_word, spelling_variable, spelling_row, spelling_numeral, spelling_quoted, spelling_list}
