@@ -48,10 +48,11 @@ meets : (kind : TokenKind) (bytes : List ℕ) (rest : Spelled) (g : Form) (ys : 
 meets kind bytes rest g ys e =
     let f = first g in
     let whole : (kind, bytes) ∷ rest ≡ (f.kind, f.bytes) ∷ (f.tail ++ ys) = e ∙ ap (λ t. t ++ ys) f.split in
+    let behind : rest ≡ f.tail ++ ys = cc in
     let pair : (kind, bytes) ≡ (f.kind, f.bytes) = cc in
     let k : f.kind ≡ kind = sym (ap (λ (p : TokenKind × List ℕ). p.0) pair) in
     let b : f.bytes ≡ bytes = sym (ap (λ (p : TokenKind × List ℕ). p.1) pair) in
-    record { tail = f.tail; means = subst (λ i. Means i bytes f.tail g) k (subst (λ i. Means f.kind i f.tail g) b f.means); same = cc }
+    record { tail = f.tail; means = subst (λ i. Means i bytes f.tail g) k (subst (λ i. Means f.kind i f.tail g) b f.means); same = behind }
 
 abbrev P : Form → Type 0
 P f = (g : Form) (xs ys : Spelled) → spelling f ++ xs ≡ spelling g ++ ys → (f ≡ g) × (xs ≡ ys)
