@@ -42,7 +42,7 @@ held_start constituent text p starts = record {
 lexed : Token → List ℕ → Lexed
 lexed token before = record { kind = token.kind; bytes = token.text.now; before = before }
 
-reads_took : (text : List ℕ) (tokens : List Lexed) (token : Token) (old new : Progress) (took : Took token old new) → Reads text tokens old.before old.rest → Reads text (tokens ++ record { kind = token.kind; bytes = token.text.now; before = old.before ++ took.skipped } ∷ []) new.before new.rest
+pub reads_took : (text : List ℕ) (tokens : List Lexed) (token : Token) (old new : Progress) (took : Took token old new) → Reads text tokens old.before old.rest → Reads text (tokens ++ record { kind = token.kind; bytes = token.text.now; before = old.before ++ took.skipped } ∷ []) new.before new.rest
 reads_took text tokens token old new took r =
     let idle = reads_idle text tokens old.before took.skipped (token.text.now ++ new.rest) (subst (Reads text tokens old.before) took.left r) took.idle in
     let more = reads_token text tokens (old.before ++ took.skipped) new.rest token.kind token.text.now idle took.is in
@@ -129,7 +129,7 @@ steps constituent text before rest forms new_forms lists new_lists closed opened
 steps constituent text before rest forms new_forms lists new_lists closed opened at_line at_column Quoted bytes here r n w o few place is f = leaf_step constituent text before rest forms new_forms lists new_lists closed opened at_line at_column (record { kind = Quoted; bytes = bytes; before = here }) r n w o few place refl f
 
 -- a token has bytes
-some_token : (kind : TokenKind) (bytes rest : List ℕ) → IsToken kind bytes rest → 0 < length bytes
+pub some_token : (kind : TokenKind) (bytes rest : List ℕ) → IsToken kind bytes rest → 0 < length bytes
 some_token Left bytes rest is = omega (arith, ap length is)
 some_token Right bytes rest is = omega (arith, ap length is)
 some_token Quoted bytes rest is = omega (arith, ap length is.2)
@@ -158,7 +158,7 @@ held_step constituent text token old new forms new_forms lists new_lists held to
     }
 
 -- the ends
-reads_finished : (text : List ℕ) (tokens : List Lexed) (old new : Progress) → Finished old new → Reads text tokens old.before old.rest → Reads text tokens (old.before ++ old.rest) []
+pub reads_finished : (text : List ℕ) (tokens : List Lexed) (old new : Progress) → Finished old new → Reads text tokens old.before old.rest → Reads text tokens (old.before ++ old.rest) []
 reads_finished text tokens old new ends r = reads_idle text tokens old.before old.rest [] (subst (Reads text tokens old.before) (sym (append-nil old.rest)) r) ends.idle
 
 pub held_spells : (constituent : ℕ) (text : List ℕ) (old new : Progress) (forms : List Located) → Held constituent text old forms [] → Finished old new → (tokens : List Lexed) × SpellsAll constituent text forms tokens
