@@ -22,29 +22,11 @@ use Rattle.kif_reader.specs.declared.kinds.LexError.{LexError}
 use Rattle.kif_reader.specs.declared.kinds.TokenKind.TheVariants.{Right}
 use Rattle.kif_reader.proofs.CutLaws.{GoesOn, cuts_compare}
 use Rattle.kif_reader.proofs.FaultLaws.{no_piece, no_end}
-use Rattle.kif_reader.proofs.ReadLaws.{tokens-append, reads_idle}
+use Rattle.kif_reader.proofs.ReadLaws.{reads_idle}
+use Rattle.kif_reader.proofs.ReadsOnLaws.{reads_number}
 use Rattle.kif_reader.proofs.ReadingIsOneLaws.{tokens_unique}
 use Rattle.kif_reader.proofs.SpellingLaws.{spelling_word, spelling_variable, spelling_row, spelling_numeral, spelling_quoted, spelling_list}
 use Rattle.kif_reader.proofs.StepLaws.{reads_took, reads_finished, some_token}
-
--- ---- of two readings of a text, one of them to its end
-
-at_front : (xs ys : List Lexed) (n : ℕ) (x : Lexed) → n < length xs → slice_get (xs ++ ys) n ≡ slice_get xs n
-at_front xs ys n x lt = slice_get-get_or (xs ++ ys) n x (omega (arith, lt, length-append xs ys)) ∙ ap (λ y. Some y) (get_or-append xs ys x n lt) ∙ sym (slice_get-get_or xs n x lt)
-
-at_seam : (xs ys : List Lexed) (x : Lexed) → slice_get (xs ++ x ∷ ys) (length xs) ≡ Some x
-at_seam xs ys x = slice_get-get_or (xs ++ x ∷ ys) (length xs) x (omega (arith, length-append xs (x ∷ ys))) ∙ ap (λ y. Some y) (get_or-append_seam xs x ys x)
-
--- the tokens so far are the first ones of the whole text
-pub reads_on : (text : List ℕ) (seen all : List Lexed) (before rest end : List ℕ) → Reads text seen before rest → Reads text all end [] → ((more : List Lexed) × (all ≡ seen ++ more)) ⊎ ((more : List Lexed) × (seen ≡ all ++ more))
-reads_on text seen all before rest end r whole =
-    compare (cuts_compare r.pieces whole.pieces rest [] r.cuts.stand whole.cuts.stand (sym r.cuts.whole ∙ whole.cuts.whole))
-  where
-    mark : List ℕ
-    mark = take (mark_len text) text
-    compare : GoesOn r.pieces whole.pieces rest [] ⊎ GoesOn whole.pieces r.pieces [] rest → ((more : List Lexed) × (all ≡ seen ++ more)) ⊎ ((more : List Lexed) × (seen ≡ all ++ more))
-    compare (inl on) = inl (tokens_of (mark ++ joined r.pieces) on.more, whole.is ∙ ap (tokens_of mark) on.pieces ∙ tokens-append mark r.pieces on.more ∙ ap (λ t. t ++ tokens_of (mark ++ joined r.pieces) on.more) (sym r.is))
-    compare (inr on) = inr (tokens_of (mark ++ joined whole.pieces) on.more, r.is ∙ ap (tokens_of mark) on.pieces ∙ tokens-append mark whole.pieces on.more ∙ ap (λ t. t ++ tokens_of (mark ++ joined whole.pieces) on.more) (sym whole.is))
 
 -- ---- taking tokens up to one of a given number
 
@@ -72,23 +54,11 @@ counted_step text token old new left less number counted took is =
       count = omega (arith, counted.count, is, length-append counted.seen (x ∷ []));
     }
 
--- the token of this number stands at this place
-abbrev pub Stands : ℕ → ℕ → ℕ → List Lexed → Type 0
-Stands number line column tokens = (token : Lexed) × (slice_get tokens number ≡ Some token) × IsPlace line column token.before
-
-pub counted_found : (text : List ℕ) (token : Token) (old new : Progress) (number : ℕ) (all : List Lexed) (end : List ℕ) → Counted text old 0 number → Took token old new → Reads text all end [] → number < length all → Stands number token.line token.column all
-counted_found text token old new number all end counted took whole within =
-    (x, found (reads_on text (counted.seen ++ x ∷ []) all new.before new.rest end (reads_took text counted.seen token old new took counted.reads) whole), took.place)
-  where
-    x : Lexed
-    x = record { kind = token.kind; bytes = token.text.now; before = old.before ++ took.skipped }
-    found : ((more : List Lexed) × (all ≡ (counted.seen ++ x ∷ []) ++ more)) ⊎ ((more : List Lexed) × (counted.seen ++ x ∷ [] ≡ all ++ more)) → slice_get all number ≡ Some x
-    found (inl on) =
-        let seen : length counted.seen ≡ number = omega (arith, counted.count) in
-        ap (λ t. slice_get t number) on.1 ∙ at_front (counted.seen ++ x ∷ []) on.0 number x (omega (arith, seen, length-append counted.seen (x ∷ []))) ∙ ap (slice_get (counted.seen ++ x ∷ [])) (sym seen) ∙ at_seam counted.seen [] x
-    found (inr on) =
-        let seen : length counted.seen ≡ number = omega (arith, counted.count) in
-        sym (at_front all on.0 number x within) ∙ ap (λ t. slice_get t number) (sym on.1) ∙ ap (slice_get (counted.seen ++ x ∷ [])) (sym seen) ∙ at_seam counted.seen [] x
+pub counted_found : (text : List ℕ) (token : Token) (old new : Progress) (number : ℕ) (all : List Lexed) (end : List ℕ) → Counted text old 0 number → Took token old new → Reads text all end [] → (x : Lexed) × (slice_get all number ≡ Some x) × IsPlace token.line token.column x.before
+counted_found text token old new number all end counted took whole =
+    let x : Lexed = record { kind = token.kind; bytes = token.text.now; before = old.before ++ took.skipped } in
+    let seen : length counted.seen ≡ number = omega (arith, counted.count) in
+    (x, ap (slice_get all) (sym seen) ∙ reads_number text counted.seen all x new.before end new.rest (reads_took text counted.seen token old new took counted.reads) whole, took.place)
 
 counted_finished : (text : List ℕ) (old new : Progress) (left number : ℕ) (all : List Lexed) (end : List ℕ) → Counted text old left number → Finished old new → Reads text all end [] → number < length all → ⊥
 counted_finished text old new left number all end counted ends whole within =

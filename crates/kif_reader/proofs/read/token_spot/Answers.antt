@@ -6,12 +6,9 @@ use Rattle.kif_reader.proofs.read.token_spot.Goals as goal
 
 pub returns-then-left-eq0 : goal.returns-then-left-eq0
 returns-then-left-eq0 c tokens before whole =
-    let text = c.args.text.now in
     let took : Took c.in-Ok.token c.loop-step.tokens c.next.new.self = search rules in
-    let within = c.requires.within in
-    let same = tokens_unique text tokens within.0 before within.1 whole within.2 in
-    counted_found text c.in-Ok.token c.loop-step.tokens c.next.new.self c.args.number tokens before
-    (subst (λ left. Counted text c.loop-step.tokens left c.args.number) c.if-left-eq0.true c.loop-step.invariant) took whole (omega (arith, ap length same, within.3))
+    counted_found c.args.text.now c.in-Ok.token c.loop-step.tokens c.next.new.self c.args.number tokens before
+    (subst (λ left. Counted c.args.text.now c.loop-step.tokens left c.args.number) c.if-left-eq0.true c.loop-step.invariant) took whole
 
 pub loop-step-preserved : goal.loop-step-preserved
 loop-step-preserved c =
