@@ -187,7 +187,7 @@ faults_moved start from [] = refl
 faults_moved start from (part ∷ parts) =
     map-append (λ at. start + at) (map (λ at. from + at) part.1) (faults_from (from + token_count part.0) parts)
     ∙ ap₂ ◌++◌ (sym (map_twice (λ at. from + at) (λ at. start + at) part.1) ∙ map_alike part.1)
-        (faults_moved start (from + token_count part.0) parts ∙ ap (λ n. faults_from n parts) (omega arith))
+    (faults_moved start (from + token_count part.0) parts ∙ ap (λ n. faults_from n parts) (omega arith))
   where
     map_alike : (faults : List ℕ) → map (λ at. start + (from + at)) faults ≡ map (λ at. start + from + at) faults
     map_alike [] = refl
@@ -290,8 +290,8 @@ from_below start [] each = tt
 from_below start (part ∷ parts) each =
     let rest : ℕ = tokens_of (map (λ (p : Part). p.0) parts) in
     each_append (λ at. at < start + (token_count part.0 + rest)) (map (λ at. start + at) part.1) (faults_from (start + token_count part.0) parts)
-        (each_map (λ at. at < start + token_count part.0) (λ at. at < start + (token_count part.0 + rest)) (λ at lt. omega (arith, lt)) (map (λ at. start + at) part.1) (moved_below start (token_count part.0) part.1 each.0))
-        (each_map (λ at. at < start + token_count part.0 + rest) (λ at. at < start + (token_count part.0 + rest)) (λ at lt. omega (arith, lt)) (faults_from (start + token_count part.0) parts) (from_below (start + token_count part.0) parts each.1))
+    (each_map (λ at. at < start + token_count part.0) (λ at. at < start + (token_count part.0 + rest)) (λ at lt. omega (arith, lt)) (map (λ at. start + at) part.1) (moved_below start (token_count part.0) part.1 each.0))
+    (each_map (λ at. at < start + token_count part.0 + rest) (λ at. at < start + (token_count part.0 + rest)) (λ at lt. omega (arith, lt)) (faults_from (start + token_count part.0) parts) (from_below (start + token_count part.0) parts each.1))
 
 each_part : (parts : List Form) → Each (λ f. Inside (as_part f)) parts → Each Inside (map as_part parts)
 each_part [] each = tt
@@ -314,9 +314,9 @@ list_inside parts each =
     let ps : List Part = tested (map as_part parts) in
     let own : Below (tokens_of parts + 2) (fault_if (is_misshapen parts)) = fault_if_below (tokens_of parts + 2) (is_misshapen parts) (omega arith) in
     let inner : Below (tokens_of parts + 2) (faults_from 1 ps) =
-        each_map (λ at. at < 1 + tokens_of (map (λ (part : Part). part.0) ps)) (λ at. at < tokens_of parts + 2) (λ at lt. omega (arith, lt, ap tokens_of (tested_forms parts))) (faults_from 1 ps) (from_below 1 ps (each_tested parts each)) in
+    each_map (λ at. at < 1 + tokens_of (map (λ (part : Part). part.0) ps)) (λ at. at < tokens_of parts + 2) (λ at lt. omega (arith, lt, ap tokens_of (tested_forms parts))) (faults_from 1 ps) (from_below 1 ps (each_tested parts each)) in
     let all : Below (tokens_of parts + 2) (fault_if (is_misshapen parts) ++ faults_from 1 ps) =
-        each_append (λ at. at < tokens_of parts + 2) (fault_if (is_misshapen parts)) (faults_from 1 ps) own inner in
+    each_append (λ at. at < tokens_of parts + 2) (fault_if (is_misshapen parts)) (faults_from 1 ps) own inner in
     subst (λ count. Below count (shape_faults (form.List parts))) (sym (token_count-List parts)) (subst (Below (tokens_of parts + 2)) (sym (faults-List parts)) all)
 
 leaf_inside : (f : Form) → shape_faults f ≡ [] → Inside (as_part f)
