@@ -1,10 +1,10 @@
 -- What the functions of `Shape` give at each kind of form, and what walks over tokens end with.
-use Rattle.std.proofs.Common.{◌≡◌, ℕ, ◌+◌, ◌-◌, ◌<◌, ◌≤◌, min, sum, List, [], ◌∷◌, ◌++◌, map, take, drop, length, get_or, arith, Bool, true, false, not, ◌&&◌, if◌then◌else◌, refl, sym, ap, ap₂, ◌∙◌, subst}
+use Rattle.std.proofs.Common.{◌≡◌, ℕ, ◌+◌, ◌<◌, ◌≤◌, sum, List, [], ◌∷◌, ◌++◌, map, take, drop, length, get_or, arith, Bool, true, false, if◌then◌else◌, refl, sym, ap, ap₂, ◌∙◌, subst}
 use Rattle.std.proofs.Math.ListN.{drop_of_length-le}
-use Rattle.std.specs.Prelude.{Result, Ok, Err, Some}
+use Rattle.std.specs.Prelude.{Result, Ok, Err, Some, option_map}
 use Rattle.std.specs.Result.{result_err}
-use Rattle.std.specs.List.{list_all, list_any}
-use Rattle.std.proofs.lemmas.List.{map-append, drop_more, take_all}
+use Rattle.std.specs.List.{list_any}
+use Rattle.std.proofs.lemmas.List.{map-append, drop_more}
 use Rattle.std.proofs.lemmas.List.Sums.{sum_by-cons}
 use Rattle.std.specs.Str.{bytes_eq}
 use Rattle.sigma_base.specs.Lists.{Each, each_append, each_map, list_any-map, map_twice}
@@ -14,7 +14,7 @@ use Rattle.kif_tree.specs.declared.form.Form.TheOpen.{Form-F}
 use Rattle.kif_tree.specs.Terms.{Bytes}
 use Rattle.kif_tree.specs.FormLaws.{induction, fold-Word, fold-Variable, fold-Row, fold-Numeral, fold-Quoted, fold-List}
 use Rattle.kif_tree.proofs.TermLaws.{sum_more}
-use Rattle.kif_tree.specs.Shape.{token_count, token_count_step, tokens_of, has_word, has_word_step, Part, as_part, tested, fault_if, faults_from, faults_step, shape_faults, is_misshapen, capped, reached, walked, walked_part, is_list, is_list_layer, is_quantifier, is_quantifier_layer, is_empty_list, is_among, quantifiers, with_names, as_names, as_top, form_faults, forms_faults, first_of, first_form_fault, first_forms_fault}
+use Rattle.kif_tree.specs.Shape.{token_count, token_count_step, tokens_of, has_word, has_word_step, Part, as_part, tested, fault_if, faults_from, faults_step, shape_faults, is_misshapen, capped, reached, walked, walked_part, is_list, is_list_layer, is_quantifier, is_quantifier_layer, is_empty_list, is_among, quantifiers, with_names, as_names, as_top, forms_faults, first_of, first_forms_fault}
 
 -- ---- tokens
 
@@ -187,7 +187,7 @@ faults_moved start from [] = refl
 faults_moved start from (part ∷ parts) =
     map-append (λ at. start + at) (map (λ at. from + at) part.1) (faults_from (from + token_count part.0) parts)
     ∙ ap₂ ◌++◌ (sym (map_twice (λ at. from + at) (λ at. start + at) part.1) ∙ map_alike part.1)
-        (faults_moved start (from + token_count part.0) parts ∙ ap (λ n. faults_from n parts) (omega arith))
+    (faults_moved start (from + token_count part.0) parts ∙ ap (λ n. faults_from n parts) (omega arith))
   where
     map_alike : (faults : List ℕ) → map (λ at. start + (from + at)) faults ≡ map (λ at. start + from + at) faults
     map_alike [] = refl
@@ -290,8 +290,8 @@ from_below start [] each = tt
 from_below start (part ∷ parts) each =
     let rest : ℕ = tokens_of (map (λ (p : Part). p.0) parts) in
     each_append (λ at. at < start + (token_count part.0 + rest)) (map (λ at. start + at) part.1) (faults_from (start + token_count part.0) parts)
-        (each_map (λ at. at < start + token_count part.0) (λ at. at < start + (token_count part.0 + rest)) (λ at lt. omega (arith, lt)) (map (λ at. start + at) part.1) (moved_below start (token_count part.0) part.1 each.0))
-        (each_map (λ at. at < start + token_count part.0 + rest) (λ at. at < start + (token_count part.0 + rest)) (λ at lt. omega (arith, lt)) (faults_from (start + token_count part.0) parts) (from_below (start + token_count part.0) parts each.1))
+    (each_map (λ at. at < start + token_count part.0) (λ at. at < start + (token_count part.0 + rest)) (λ at lt. omega (arith, lt)) (map (λ at. start + at) part.1) (moved_below start (token_count part.0) part.1 each.0))
+    (each_map (λ at. at < start + token_count part.0 + rest) (λ at. at < start + (token_count part.0 + rest)) (λ at lt. omega (arith, lt)) (faults_from (start + token_count part.0) parts) (from_below (start + token_count part.0) parts each.1))
 
 each_part : (parts : List Form) → Each (λ f. Inside (as_part f)) parts → Each Inside (map as_part parts)
 each_part [] each = tt
@@ -314,9 +314,9 @@ list_inside parts each =
     let ps : List Part = tested (map as_part parts) in
     let own : Below (tokens_of parts + 2) (fault_if (is_misshapen parts)) = fault_if_below (tokens_of parts + 2) (is_misshapen parts) (omega arith) in
     let inner : Below (tokens_of parts + 2) (faults_from 1 ps) =
-        each_map (λ at. at < 1 + tokens_of (map (λ (part : Part). part.0) ps)) (λ at. at < tokens_of parts + 2) (λ at lt. omega (arith, lt, ap tokens_of (tested_forms parts))) (faults_from 1 ps) (from_below 1 ps (each_tested parts each)) in
+    each_map (λ at. at < 1 + tokens_of (map (λ (part : Part). part.0) ps)) (λ at. at < tokens_of parts + 2) (λ at lt. omega (arith, lt, ap tokens_of (tested_forms parts))) (faults_from 1 ps) (from_below 1 ps (each_tested parts each)) in
     let all : Below (tokens_of parts + 2) (fault_if (is_misshapen parts) ++ faults_from 1 ps) =
-        each_append (λ at. at < tokens_of parts + 2) (fault_if (is_misshapen parts)) (faults_from 1 ps) own inner in
+    each_append (λ at. at < tokens_of parts + 2) (fault_if (is_misshapen parts)) (faults_from 1 ps) own inner in
     subst (λ count. Below count (shape_faults (form.List parts))) (sym (token_count-List parts)) (subst (Below (tokens_of parts + 2)) (sym (faults-List parts)) all)
 
 leaf_inside : (f : Form) → shape_faults f ≡ [] → Inside (as_part f)
@@ -352,10 +352,18 @@ forms_below forms =
     let all = subst (λ fs. Below (0 + tokens_of fs) (forms_faults forms)) (top_forms forms) (from_below 0 (map as_top forms) (each_top forms)) in
     each_map (λ at. at < 0 + tokens_of forms) (λ at. at < tokens_of forms) (λ at lt. omega (arith, lt)) (forms_faults forms) all
 
-first_told : (next count : ℕ) (faults : List ℕ) → Below count faults → count ≤ 18446744073709551615 → result_err (reached next faults) ≡ first_of faults
-first_told next count [] below most = refl
-first_told next count (at ∷ faults) below most = ap Some (omega (arith, below.0, most))
-
 -- a walk over all forms tells their first fault
-pub forms_told : (forms : List Form) → tokens_of forms ≤ 18446744073709551615 → result_err (walked 0 (map as_top forms)) ≡ first_forms_fault forms
-forms_told forms most = first_told (0 + tokens_of (map (λ (part : Part). part.0) (map as_top forms))) (tokens_of forms) (forms_faults forms) (forms_below forms) most
+told : (next : ℕ) (faults : List ℕ) → result_err (reached next faults) ≡ option_map capped (first_of faults)
+told next [] = refl
+told next (at ∷ faults) = refl
+
+pub forms_told : (forms : List Form) → result_err (walked 0 (map as_top forms)) ≡ option_map capped (first_forms_fault forms)
+forms_told forms = told (0 + tokens_of (map (λ (part : Part). part.0) (map as_top forms))) (forms_faults forms)
+
+uncapped : (count : ℕ) (faults : List ℕ) → Below count faults → count ≤ 18446744073709551615 → option_map capped (first_of faults) ≡ first_of faults
+uncapped count [] below most = refl
+uncapped count (at ∷ faults) below most = ap Some (omega (arith, below.0, most))
+
+-- and tells it exactly where the tokens can be numbered
+pub told_exactly : (forms : List Form) → tokens_of forms ≤ 18446744073709551615 → option_map capped (first_forms_fault forms) ≡ first_forms_fault forms
+told_exactly forms most = uncapped (tokens_of forms) (forms_faults forms) (forms_below forms) most

@@ -1,5 +1,5 @@
 //! How lists are shaped: which heads they have, and which arguments the logical words take.
-ghost use Rattle.std.specs.Prelude.{◌≡◌, ◌≤◌, ◌∷◌, [], map};
+ghost use Rattle.std.specs.Prelude.{◌≡◌, map, option_map};
 ghost use Rattle.kif_tree.specs.Shape as spec;
 
 use crate::form::Form;
@@ -12,11 +12,11 @@ pub fn is_shaped(form: &Form) -> bool
     walk_top(form, 0).is_ok() && !has_word(form, b"!answer")
 }
 
-/// The first fault of shape of the forms of a text, as the number of the token at which the faulty form or list begins.
-/// The tokens that spell the forms are counted from 0, over all of them. It takes no memory.
+/// The first fault of shape of the forms of a text, as the number of the token at which the faulty form or list begins,
+/// or the greatest `usize` where that is greater. The tokens that spell the forms are counted from 0, over all of them.
+/// It takes no memory.
 pub fn first_fault_in(forms: &[Located]) -> Option<usize>
-    requires counted { spec.tokens_of (map (λ located. located.form) forms.now) ≤ 18446744073709551615 }
-    ensures { result ≡ spec.first_forms_fault (map (λ located. located.form) forms.now) }
+    ensures { result ≡ option_map spec.capped (spec.first_forms_fault (map (λ located. located.form) forms.now)) }
 {
     walk_forms(forms).err()
 }

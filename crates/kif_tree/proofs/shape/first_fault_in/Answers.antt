@@ -7,6 +7,6 @@ use Rattle.kif_tree.proofs.shape.first_fault_in.Goals as goal
 
 pub returns : goal.returns
 returns c =
-    let told = forms_told (map (λ (located : Located). located.form) c.args.forms.now) c.requires.counted in
+    let told = forms_told (map (λ (located : Located). located.form) c.args.forms.now) in
     let twice = map_twice (λ (located : Located). located.form) as_top c.args.forms.now in
     grind (arith, told, twice)
