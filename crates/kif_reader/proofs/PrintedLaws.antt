@@ -9,10 +9,10 @@ use Rattle.sigma_base.specs.Lists.{Each}
 use Rattle.kif_tree.specs.declared.form.Form.{Form}
 use Rattle.kif_tree.specs.declared.form.Form.TheVariants as form
 use Rattle.kif_tree.specs.declared.place.Located.{Located}
-use Rattle.kif_tree.specs.FormLaws.{induction, fold-Word, fold-Variable, fold-Row, fold-Numeral, fold-Quoted, fold-List}
-use Rattle.kif_tree.specs.Printed.{form_text, form_step, spaced, after_blank}
+use Rattle.kif_tree.specs.FormLaws.{induction}
+use Rattle.kif_tree.specs.Printed.{form_text, spaced, after_blank}
 use Rattle.kif_tree.specs.Shape.{first_of, first_form_fault, first_forms_fault, form_faults}
-use Rattle.kif_tree.specs.Terms.{Bytes}
+use Rattle.kif_tree.proofs.PrintLaws.{form_text-Word, form_text-Variable, form_text-Row, form_text-Numeral, form_text-Quoted, form_text-List}
 use Rattle.kif_reader.specs.Bytes.{is_chunk_byte}
 use Rattle.kif_reader.specs.Cut.{Piece, Blank, Comment, Lexeme, bytes_of, joined, Stands, Stand, Stops, IsToken, IsChunkOf, is_outside, quoted}
 use Rattle.kif_reader.specs.Reading.{mark_len}
@@ -21,36 +21,11 @@ use Rattle.kif_reader.specs.Spelling.{Lexed, tokens_of, level, bare, BeginsAt, s
 use Rattle.kif_reader.specs.declared.kinds.TokenKind.{TokenKind}
 use Rattle.kif_reader.specs.declared.kinds.TokenKind.TheVariants.{Left, Right, Word, Variable, Row, Numeral, Quoted}
 use Rattle.kif_reader.proofs.FaultLaws.{piece_outside}
-use Rattle.kif_reader.proofs.NestLaws.{bare_level, level_bare, spelled_nest}
+use Rattle.kif_reader.proofs.LevelLaws.{bare_level, same_level}
+use Rattle.kif_reader.proofs.NestLaws.{spelled_nest}
 use Rattle.kif_reader.proofs.ReadLaws.{tokens-append, stand-append}
 use Rattle.kif_reader.proofs.SpellableLaws.{spelled_spellable, parts_spellable, spelled_faultless}
 use Rattle.kif_reader.proofs.SpellingLaws.{spelling_word, spelling_variable, spelling_row, spelling_numeral, spelling_quoted, spelling_list}
-
--- ---- what is printed for each kind of form
-
-text_word : (text : Bytes) → form_text (form.Word text) ≡ text
-unfolding form_text
-text_word = fold-Word Bytes form_step
-
-text_variable : (text : Bytes) → form_text (form.Variable text) ≡ 63 ∷ text
-unfolding form_text
-text_variable = fold-Variable Bytes form_step
-
-text_row : (text : Bytes) → form_text (form.Row text) ≡ 64 ∷ text
-unfolding form_text
-text_row = fold-Row Bytes form_step
-
-text_numeral : (text : Bytes) → form_text (form.Numeral text) ≡ text
-unfolding form_text
-text_numeral = fold-Numeral Bytes form_step
-
-text_quoted : (text : Bytes) → form_text (form.Quoted text) ≡ quoted text
-unfolding form_text
-text_quoted = fold-Quoted Bytes form_step
-
-text_list : (parts : List Form) → form_text (form.List parts) ≡ (40 ∷ spaced (map form_text parts)) ++ 41 ∷ []
-unfolding form_text
-text_list = fold-List Bytes form_step
 
 -- ---- the cut of a printed form
 
@@ -125,7 +100,7 @@ list_cut : (parts : List Form) → Each Cut parts → Cut (form.List parts)
 list_cut parts each =
     let inner = spaced_cut parts each in
     let close : List Piece = Lexeme Right (41 ∷ []) ∷ [] in
-    as_cut (form.List parts) ((40 ∷ spaced (map form_text parts)) ++ 41 ∷ []) (((Left, 40 ∷ []) ∷ flat_map spelling parts) ++ (Right, 41 ∷ []) ∷ []) (text_list parts) (spelling_list parts) (record {
+    as_cut (form.List parts) ((40 ∷ spaced (map form_text parts)) ++ 41 ∷ []) (((Left, 40 ∷ []) ∷ flat_map spelling parts) ++ (Right, 41 ∷ []) ∷ []) (form_text-List parts) (spelling_list parts) (record {
       kind = Left;
       bytes = 40 ∷ [];
       more = inner.pieces ++ close;
@@ -141,11 +116,11 @@ parts_cut (part ∷ parts) each is = (each.0 is.0, parts_cut parts each.1 is.1)
 -- a printed form is cut into its tokens
 print_cut : (f : Form) → IsSpellable f → Cut f
 print_cut = induction (λ f. IsSpellable f → Cut f) (record {
-  word = λ text is. let one : Each IsBare ((Word, text) ∷ []) = subst (Each IsBare) (spelling_word text) is in as_cut (form.Word text) text ((Word, text) ∷ []) (text_word text) (spelling_word text) (leaf_cut Word text (chunk_before Word text one.0));
-  variable = λ text is. let one : Each IsBare ((Variable, 63 ∷ text) ∷ []) = subst (Each IsBare) (spelling_variable text) is in as_cut (form.Variable text) (63 ∷ text) ((Variable, 63 ∷ text) ∷ []) (text_variable text) (spelling_variable text) (leaf_cut Variable (63 ∷ text) (chunk_before Variable (63 ∷ text) one.0));
-  row = λ text is. let one : Each IsBare ((Row, 64 ∷ text) ∷ []) = subst (Each IsBare) (spelling_row text) is in as_cut (form.Row text) (64 ∷ text) ((Row, 64 ∷ text) ∷ []) (text_row text) (spelling_row text) (leaf_cut Row (64 ∷ text) (chunk_before Row (64 ∷ text) one.0));
-  numeral = λ text is. let one : Each IsBare ((Numeral, text) ∷ []) = subst (Each IsBare) (spelling_numeral text) is in as_cut (form.Numeral text) text ((Numeral, text) ∷ []) (text_numeral text) (spelling_numeral text) (leaf_cut Numeral text (chunk_before Numeral text one.0));
-  quoted = λ text is. let one : Each IsBare ((Quoted, quoted text) ∷ []) = subst (Each IsBare) (spelling_quoted text) is in as_cut (form.Quoted text) (quoted text) ((Quoted, quoted text) ∷ []) (text_quoted text) (spelling_quoted text) (leaf_cut Quoted (quoted text) (λ follow stops. one.0));
+  word = λ text is. let one : Each IsBare ((Word, text) ∷ []) = subst (Each IsBare) (spelling_word text) is in as_cut (form.Word text) text ((Word, text) ∷ []) (form_text-Word text) (spelling_word text) (leaf_cut Word text (chunk_before Word text one.0));
+  variable = λ text is. let one : Each IsBare ((Variable, 63 ∷ text) ∷ []) = subst (Each IsBare) (spelling_variable text) is in as_cut (form.Variable text) (63 ∷ text) ((Variable, 63 ∷ text) ∷ []) (form_text-Variable text) (spelling_variable text) (leaf_cut Variable (63 ∷ text) (chunk_before Variable (63 ∷ text) one.0));
+  row = λ text is. let one : Each IsBare ((Row, 64 ∷ text) ∷ []) = subst (Each IsBare) (spelling_row text) is in as_cut (form.Row text) (64 ∷ text) ((Row, 64 ∷ text) ∷ []) (form_text-Row text) (spelling_row text) (leaf_cut Row (64 ∷ text) (chunk_before Row (64 ∷ text) one.0));
+  numeral = λ text is. let one : Each IsBare ((Numeral, text) ∷ []) = subst (Each IsBare) (spelling_numeral text) is in as_cut (form.Numeral text) text ((Numeral, text) ∷ []) (form_text-Numeral text) (spelling_numeral text) (leaf_cut Numeral text (chunk_before Numeral text one.0));
+  quoted = λ text is. let one : Each IsBare ((Quoted, quoted text) ∷ []) = subst (Each IsBare) (spelling_quoted text) is in as_cut (form.Quoted text) (quoted text) ((Quoted, quoted text) ∷ []) (form_text-Quoted text) (spelling_quoted text) (leaf_cut Quoted (quoted text) (λ follow stops. one.0));
   list = λ parts each is. list_cut parts (parts_cut parts each (parts_spellable parts is));
 })
 
@@ -191,7 +166,7 @@ form_alone c f is nests shaped =
           taken = ap (λ n. take n (form_text f) ++ joined pieces) (sym none);
           is = ap (λ n. tokens_of (take n (form_text f)) pieces) (sym none);
         };
-        nests = level_bare 0 tokens ∙ ap (bare_level 0) (cut.tokens_are []) ∙ nests;
+        nests = sym (same_level 0 tokens) ∙ ap (bare_level 0) (cut.tokens_are []) ∙ nests;
         spelled = (tokens, [], sym (append-nil tokens), record { spelled = cut.tokens_are []; place = record { line = refl; column = refl }; number_is = refl; constituent_is = refl }, refl);
       };
       shaped = shown_faults (form_faults f) shaped;

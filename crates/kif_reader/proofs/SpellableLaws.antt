@@ -3,13 +3,15 @@ use Rattle.std.proofs.Common.{◌≡◌, ℕ, ◌+◌, Bool, true, false, ◌&&�
 use Rattle.std.specs.Prelude.{codes, is_none, not}
 use Rattle.std.specs.List.{list_any, flat_map}
 use Rattle.std.specs.Str.{bytes_eq}
+use Rattle.std.proofs.lemmas.List.{map-append}
 use Rattle.std.proofs.lemmas.Slice.Eq.{bytes_eq-Decides}
-use Rattle.sigma_base.specs.Lists.{Each, each_left, each_right, each_map, list_any-map}
+use Rattle.sigma_base.specs.Lists.{Each, each_left, each_right, each_map}
 use Rattle.kif_tree.specs.declared.form.Form.{Form}
 use Rattle.kif_tree.specs.declared.form.Form.TheVariants as form
 use Rattle.kif_tree.specs.declared.place.Located.{Located}
-use Rattle.kif_tree.specs.FormLaws.{induction, fold-Word, fold-Variable, fold-Row, fold-Numeral, fold-Quoted, fold-List}
+use Rattle.kif_tree.specs.FormLaws.{induction, fold-Variable, fold-Row, fold-Numeral, fold-Quoted}
 use Rattle.kif_tree.specs.Shape.{has_word, has_word_step, Part, faults_from, form_faults, as_top, first_of, first_form_fault, first_forms_fault, is_shaped, token_count}
+use Rattle.kif_tree.proofs.ShapeLaws.{has_word-Word, has_word-List}
 use Rattle.kif_reader.specs.Chunks.{kind_of_chunk, is_numeral}
 use Rattle.kif_reader.specs.Cut.{Piece, Blank, Comment, Lexeme, joined, Stand, IsToken, IsChunkOf}
 use Rattle.kif_reader.specs.Spellable.{IsSpellable}
@@ -40,14 +42,10 @@ tokens_alone before (Blank byte ∷ pieces) rest stand = tokens_alone (before ++
 tokens_alone before (Comment body ∷ pieces) rest stand = tokens_alone (before ++ 59 ∷ body) pieces rest stand.1
 tokens_alone before (Lexeme kind bytes ∷ pieces) rest stand = (token_alone kind bytes (joined pieces ++ rest) stand.0, tokens_alone (before ++ bytes) pieces rest stand.1)
 
-map_front : (xs ys : List Lexed) → map bare (xs ++ ys) ≡ map bare xs ++ map bare ys
-map_front [] ys = refl
-map_front (x ∷ xs) ys = ap (λ l. bare x ∷ l) (map_front xs ys)
-
 forms_spellable : (c n : ℕ) (forms : List Located) (tokens : List Lexed) → SpellsForms c n forms tokens → Each IsBare (map bare tokens) → Each (λ (located : Located). IsSpellable located.form) forms
 forms_spellable c n [] tokens is each = tt
 forms_spellable c n (located ∷ more) tokens is each =
-    let split : Each IsBare (map bare is.0 ++ map bare is.1) = subst (Each IsBare) (ap (map bare) is.2 ∙ map_front is.0 is.1) each in
+    let split : Each IsBare (map bare is.0 ++ map bare is.1) = subst (Each IsBare) (ap (map bare) is.2 ∙ map-append bare is.0 is.1) each in
     (subst (Each IsBare) is.3.spelled (each_left IsBare (map bare is.0) (map bare is.1) split), forms_spellable c (n + 1) more is.1 is.4 (each_right IsBare (map bare is.0) (map bare is.1) split))
 
 -- the leaves of forms that a text spells are of their kinds
@@ -85,12 +83,12 @@ parts_wordless name (part ∷ parts) each is = either (has_word name part) (list
 spellable_no_word : (name : List ℕ) → kind_of_chunk name ≡ None → (f : Form) → IsSpellable f → has_word name f ≡ false
 unfolding has_word
 spellable_no_word name none = induction (λ f. IsSpellable f → has_word name f ≡ false) (record {
-  word = λ text is. let one : Each IsBare ((Word, text) ∷ []) = subst (Each IsBare) (spelling_word text) is in fold-Word Bool (has_word_step name) text ∙ no_word name text none one.0.kind;
+  word = λ text is. let one : Each IsBare ((Word, text) ∷ []) = subst (Each IsBare) (spelling_word text) is in has_word-Word name text ∙ no_word name text none one.0.kind;
   variable = λ text is. fold-Variable Bool (has_word_step name) text;
   row = λ text is. fold-Row Bool (has_word_step name) text;
   numeral = λ text is. fold-Numeral Bool (has_word_step name) text;
   quoted = λ text is. fold-Quoted Bool (has_word_step name) text;
-  list = λ parts each is. fold-List Bool (has_word_step name) parts ∙ list_any-map (λ b. b) (has_word name) parts ∙ parts_wordless name parts each (parts_spellable parts is);
+  list = λ parts each is. has_word-List name parts ∙ parts_wordless name parts each (parts_spellable parts is);
 })
 
 answer_is_no_chunk : kind_of_chunk (codes "!answer") ≡ None
