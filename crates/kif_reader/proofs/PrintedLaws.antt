@@ -15,6 +15,7 @@ use Rattle.kif_tree.specs.Shape.{first_of, first_form_fault, first_forms_fault, 
 use Rattle.kif_tree.proofs.PrintLaws.{form_text-Word, form_text-Variable, form_text-Row, form_text-Numeral, form_text-Quoted, form_text-List}
 use Rattle.kif_reader.specs.Bytes.{is_chunk_byte}
 use Rattle.kif_reader.specs.Cut.{Piece, Blank, Comment, Lexeme, bytes_of, joined, Stands, Stand, Stops, IsToken, IsChunkOf, is_outside, quoted}
+use Rattle.kif_reader.specs.Laws.{alone}
 use Rattle.kif_reader.specs.Reading.{mark_len}
 use Rattle.kif_reader.specs.Spellable.{IsSpellable}
 use Rattle.kif_reader.specs.Spelling.{Lexed, tokens_of, level, bare, BeginsAt, spelling, Spelled, forms_of, SpellsForms, Reads, Spells}
@@ -145,9 +146,6 @@ no_mark p ps stand =
 shown_faults : (xs : List ℕ) → first_of xs ≡ None → first_of (map (λ at. 0 + at) xs ++ []) ≡ None
 shown_faults [] e = refl
 shown_faults (x ∷ xs) e = absurd (cc)
-
-abbrev alone : ℕ → Form → List Located
-alone constituent f = record { form = f; place = record { constituent = constituent; form = 1; line = 1; column = 1 } } ∷ []
 
 pub form_alone : (c : ℕ) (f : Form) → IsSpellable f → bare_level 0 (spelling f) ≡ Some 0 → first_form_fault f ≡ None → Spells c (form_text f) (alone c f)
 form_alone c f is nests shaped =
