@@ -1,10 +1,12 @@
 -- Laws of the definitions.
 use Rattle.std.specs.Prelude.{◌≡◌, ◌≢◌, ℕ, List, [], ◌∷◌, ◌++◌, true, false, codes}
+use Rattle.std.specs.Bool.{Decides}
 use Rattle.sigma_base.specs.Lists.{Each}
 use Rattle.kif_tree.specs.declared.form.Form.{Form}
 use Rattle.kif_tree.specs.declared.place.Located.{Located}
 use Rattle.kif_tree.specs.Printed.{form_text}
 use Rattle.kif_tree.specs.Shape.{has_word, is_shaped}
+use Rattle.kif_reader.specs.Chunks.{is_numeral, IsNumeral}
 use Rattle.kif_reader.specs.Reading.{Progress, Starts, Met, Finished}
 use Rattle.kif_reader.specs.Runs.{Gives, TellsTokens, TellsFault}
 use Rattle.kif_reader.specs.Spellable.{IsSpellable}
@@ -67,3 +69,9 @@ EndsAtTheEnd = (text : List ℕ) (start now last : Progress) (tokens : List Toke
 -- where it meets a fault, behind them no token can be taken, for that reason, at that place
 abbrev pub MeetsTheFault : Type 0
 MeetsTheFault = (text : List ℕ) (start now last : Progress) (tokens : List Token) (error : LexError) → Starts text start → Gives tokens start now → Met error now last → TellsFault text tokens error
+
+-- ---- numerals
+
+-- the test of the definitions decides what is a numeral
+abbrev pub NumeralDecides : Type 0
+NumeralDecides = (text : List ℕ) → Decides (is_numeral text) (IsNumeral text)

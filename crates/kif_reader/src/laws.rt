@@ -27,3 +27,8 @@ pub fn tokens_law()
     ensures whole { laws.EndsAtTheEnd }
     ensures fault { laws.MeetsTheFault }
 {}
+
+/// The test of the definitions decides which texts are numerals.
+pub fn numeral_law()
+    ensures { laws.NumeralDecides }
+{}
