@@ -1,10 +1,13 @@
 -- The tokens that are taken of a text are those of its cut.
 use Rattle.std.proofs.Common.{◌≡◌, ℕ, List, [], ◌∷◌, ◌++◌, take, sym, ap, ◌∙◌, refl, subst, append_assoc, append-nil}
 use Rattle.std.specs.List.{AllZip}
+use Rattle.std.proofs.lemmas.List.{take-append-drop}
+use Rattle.sigma_base.specs.Lists.{Each}
 use Rattle.kif_reader.specs.Bytes.{IsPlace}
+use Rattle.kif_reader.specs.Cut.{Piece, Blank, Comment, Lexeme, joined}
 use Rattle.kif_reader.specs.Reading.{Progress, Starts, Took, Met, Finished, mark_len, spot_of}
 use Rattle.kif_reader.specs.Runs.{Gives, IsTold, TellsTokens, TellsFault}
-use Rattle.kif_reader.specs.Spelling.{Lexed, Reads}
+use Rattle.kif_reader.specs.Spelling.{Lexed, Reads, tokens_of}
 use Rattle.kif_reader.specs.declared.kinds.LexError.{LexError}
 use Rattle.kif_reader.specs.declared.kinds.Token.{Token}
 use Rattle.kif_reader.proofs.ReadLaws.{reads_idle, reads_token}
@@ -55,3 +58,20 @@ gives_fault text start now last tokens error starts gives met =
       met = met.is;
       place = subst (IsPlace (spot_of error).line (spot_of error).column) (sym (append_assoc now.before met.skipped met.inner)) met.place;
     }
+
+-- ---- where the tokens of a cut stand
+
+abbrev StandsIn : List ℕ → Lexed → Type 0
+StandsIn text token = (behind : List ℕ) × (text ≡ token.before ++ (token.bytes ++ behind))
+
+pieces_in : (text before : List ℕ) (pieces : List Piece) (rest : List ℕ) → text ≡ before ++ (joined pieces ++ rest) → Each (StandsIn text) (tokens_of before pieces)
+pieces_in text before [] rest e = tt
+pieces_in text before (Blank byte ∷ pieces) rest e = pieces_in text (before ++ byte ∷ []) pieces rest (e ∙ sym (append_assoc before (byte ∷ []) (joined pieces ++ rest)))
+pieces_in text before (Comment body ∷ pieces) rest e = pieces_in text (before ++ 59 ∷ body) pieces rest (e ∙ ap (λ l. before ++ l) (append_assoc (59 ∷ body) (joined pieces) rest) ∙ sym (append_assoc before (59 ∷ body) (joined pieces ++ rest)))
+pieces_in text before (Lexeme kind bytes ∷ pieces) rest e =
+    let split = e ∙ ap (λ l. before ++ l) (append_assoc bytes (joined pieces) rest) in
+    ((joined pieces ++ rest, split), pieces_in text (before ++ bytes) pieces rest (split ∙ sym (append_assoc before bytes (joined pieces ++ rest))))
+
+pub tokens_stand : (text : List ℕ) (tokens : List Lexed) (before rest : List ℕ) → Reads text tokens before rest → Each (StandsIn text) tokens
+tokens_stand text tokens before rest is =
+    subst (Each (StandsIn text)) (sym is.is) (pieces_in text (take (mark_len text) text) is.pieces rest (sym (take-append-drop (mark_len text) text) ∙ ap (λ l. take (mark_len text) text ++ l) is.cuts.whole))

@@ -62,6 +62,10 @@ PrintedSpellsAgain = (constituent other : ℕ) (text : List ℕ) (forms : List L
 abbrev pub GivesTheTokens : Type 0
 GivesTheTokens = (text : List ℕ) (start now : Progress) (tokens : List Token) → Starts text start → Gives tokens start now → TellsTokens text tokens now.before now.rest
 
+-- each token of a cut stands in the text behind the bytes that it names
+abbrev pub TokensStand : Type 0
+TokensStand = (text : List ℕ) (tokens : List Lexed) (before rest : List ℕ) → Reads text tokens before rest → Each (λ (token : Lexed). (behind : List ℕ) × (text ≡ token.before ++ (token.bytes ++ behind))) tokens
+
 -- where it ends, they are those of the cut of the whole text
 abbrev pub EndsAtTheEnd : Type 0
 EndsAtTheEnd = (text : List ℕ) (start now last : Progress) (tokens : List Token) → Starts text start → Gives tokens start now → Finished now last → TellsTokens text tokens last.before []

@@ -24,6 +24,7 @@ pub fn printed_form_law()
 /// The tokens that a reader gives are those of the text's cut, up to its end or to the first fault of a token.
 pub fn tokens_law()
     ensures tokens { laws.GivesTheTokens }
+    ensures places { laws.TokensStand }
     ensures whole { laws.EndsAtTheEnd }
     ensures fault { laws.MeetsTheFault }
 {}
