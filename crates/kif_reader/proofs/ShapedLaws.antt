@@ -1,23 +1,22 @@
 -- Forms that a text spells hold no word that a text can't, and where none has a fault of shape each is shaped.
-use Rattle.std.proofs.Common.{◌≡◌, ℕ, ◌+◌, ◌<◌, ◌&&◌, ◌||◌, Bool, true, false, not, Option, Some, None, List, [], ◌∷◌, ◌++◌, length, map, take, sym, ap, ap₂, ◌∙◌, refl, subst, arith, codes}
+use Rattle.std.proofs.Common.{◌≡◌, ℕ, ◌+◌, ◌&&◌, ◌||◌, Bool, true, false, not, Some, None, List, [], ◌∷◌, ◌++◌, map, take, sym, ap, ap₂, ◌∙◌, refl, subst, codes}
 use Rattle.std.specs.Prelude.{is_none}
 use Rattle.std.specs.List.{All, flat_map, list_any}
 use Rattle.std.specs.Str.{bytes_eq}
 use Rattle.std.proofs.lemmas.Slice.Eq.{bytes_eq-Decides}
 use Rattle.std.proofs.lemmas.List.Elements.{All-cons, All-nil}
 use Rattle.std.proofs.lemmas.List.{map-append}
-use Rattle.sigma_base.specs.Lists.{Each, each_append, each_left, each_right}
+use Rattle.sigma_base.specs.Lists.{Each, each_left, each_right}
 use Rattle.kif_tree.specs.declared.form.Form.{Form}
 use Rattle.kif_tree.specs.declared.form.Form.TheVariants as form
 use Rattle.kif_tree.specs.declared.place.Located.{Located}
-use Rattle.kif_tree.specs.declared.form.Form.TheOpen.{Form-F}
 use Rattle.kif_tree.specs.FormLaws.{induction, fold-Variable, fold-Row, fold-Numeral, fold-Quoted}
-use Rattle.kif_tree.specs.Shape.{has_word, has_word_step, is_shaped, first_of, first_form_fault, first_forms_fault, form_faults, forms_faults, faults_from, as_top, token_count, Part}
+use Rattle.kif_tree.specs.Shape.{has_word, has_word_step, is_shaped, first_of, first_forms_fault, form_faults, forms_faults, faults_from, as_top, token_count}
 use Rattle.kif_tree.proofs.ShapeLaws.{has_word-Word, has_word-List}
 use Rattle.kif_reader.specs.Chunks.{kind_of_chunk, is_numeral}
 use Rattle.kif_reader.specs.Cut.{Piece, Blank, Comment, Lexeme, joined, Stand, IsToken}
 use Rattle.kif_reader.specs.Reading.{mark_len}
-use Rattle.kif_reader.specs.Spelling.{Lexed, Spelled, bare, spelling, tokens_of, Reads, SpellsForms, SpellsAll, forms_of}
+use Rattle.kif_reader.specs.Spelling.{Lexed, bare, spelling, tokens_of, SpellsForms, SpellsAll, forms_of}
 use Rattle.kif_reader.specs.declared.kinds.TokenKind.{TokenKind}
 use Rattle.kif_reader.specs.declared.kinds.TokenKind.TheVariants.{Left, Right, Word, Variable, Row, Numeral, Quoted}
 use Rattle.kif_reader.proofs.SpellingLaws.{spelling_word, spelling_list}
@@ -95,9 +94,10 @@ form_lacks name other = induction (Lacks name) (record {
 forms_lack : (name : List ℕ) (constituent number : ℕ) (forms : List Located) (tokens : List Lexed) → NoWord name → SpellsForms constituent number forms tokens → Each IsOfText (map bare tokens) → Each (λ (located : Located). has_word name located.form ≡ false) forms
 forms_lack name constituent number [] tokens other all is = tt
 forms_lack name constituent number (f ∷ fs) tokens other all is =
-    let both = subst (Each IsOfText) (ap (map bare) all.2 ∙ map-append bare all.0 all.1) is in
-    (form_lacks name other f.form (subst (Each IsOfText) all.3.spelled (each_left IsOfText (map bare all.0) (map bare all.1) both)),
-     forms_lack name constituent (number + 1) fs all.1 other all.4 (each_right IsOfText (map bare all.0) (map bare all.1) both))
+    let both = subst (Each IsOfText) (ap (map bare) all.2 ∙ map-append bare all.0 all.1) is in (
+      form_lacks name other f.form (subst (Each IsOfText) all.3.spelled (each_left IsOfText (map bare all.0) (map bare all.1) both)),
+      forms_lack name constituent (number + 1) fs all.1 other all.4 (each_right IsOfText (map bare all.0) (map bare all.1) both),
+    )
 
 -- ---- faults of shape
 
