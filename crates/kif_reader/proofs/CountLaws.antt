@@ -1,13 +1,10 @@
 -- The token of a given number, and how many tokens a text has.
-use Rattle.std.proofs.Common.{◌≡◌, ℕ, ◌+◌, ◌-◌, ◌<◌, ◌≤◌, ◌^◌, ◌⊎◌, inl, inr, true, false, Some, List, [], ◌∷◌, ◌++◌, length, take, drop, map, sym, ap, ◌∙◌, refl, subst, arith, append_assoc, append-nil, length-append, length-drop}
+use Rattle.std.proofs.Common.{◌≡◌, ℕ, ◌+◌, ◌<◌, ◌≤◌, ◌^◌, ◌⊎◌, inl, inr, true, false, Option, Some, List, [], ◌∷◌, ◌++◌, length, take, sym, ap, ◌∙◌, refl, subst, arith, append_assoc, append-nil, length-append, length-drop}
 use Rattle.std.specs.List.{slice_get, flat_map}
-use Rattle.std.proofs.lemmas.List.{length-map, map-append}
-use Rattle.std.proofs.lemmas.Option.{slice_get-get_or}
-use Rattle.std.proofs.Math.ListN.{get_or-append}
-use Rattle.std.proofs.Math.Seq.{get_or-append_seam}
+use Rattle.std.specs.Option.{option_map}
+use Rattle.std.proofs.lemmas.List.{length-map}
 use Rattle.sigma_base.specs.Lists.{Each}
 use Rattle.kif_tree.specs.declared.form.Form.{Form}
-use Rattle.kif_tree.specs.declared.form.Form.TheVariants as form
 use Rattle.kif_tree.specs.declared.place.Located.{Located}
 use Rattle.kif_tree.specs.FormLaws.{induction}
 use Rattle.kif_tree.specs.Shape.{token_count}
@@ -79,9 +76,11 @@ counted_met text error old new left number all end counted met whole =
   where
     r : Reads text counted.seen (old.before ++ met.skipped) (met.inner ++ new.rest)
     r = reads_idle text counted.seen old.before met.skipped (met.inner ++ new.rest) (subst (Reads text counted.seen old.before) met.left counted.reads) met.idle
+
     pieces : (more : List Piece) → Stand more [] → met.inner ++ new.rest ≡ joined more ++ [] → ⊥
     pieces [] stand e = no_end (fault_of error) met.inner new.rest met.is e
     pieces (p ∷ more) stand e = no_piece (fault_of error) met.inner new.rest p (joined more ++ []) met.is stand.0 (e ∙ append_assoc (bytes_of p) (joined more) [])
+
     compare : GoesOn r.pieces whole.pieces (met.inner ++ new.rest) [] ⊎ GoesOn whole.pieces r.pieces [] (met.inner ++ new.rest) → ⊥
     compare (inl on) = pieces on.more on.stand on.rest
     compare (inr on) = no_end (fault_of error) met.inner new.rest met.is (nothing_behind (joined on.more) (met.inner ++ new.rest) on.rest)
@@ -117,9 +116,19 @@ forms_length constituent number (f ∷ fs) tokens all =
     omega (arith, ap length all.2, length-append all.0 all.1, sym (length-map all.0 bare), ap length all.3.spelled, spelling_length f.form, forms_length constituent (number + 1) fs all.1 all.4)
 
 -- the shape of forms of a text is told in numbers of the code
-pub few_parts : (constituent : ℕ) (text : List ℕ) (forms : List Located) (tokens : List Lexed) → SpellsAll constituent text forms tokens → length text < 2 ^ 31 → shape.tokens_of (forms_of forms) ≤ 18446744073709551615
+few_parts : (constituent : ℕ) (text : List ℕ) (forms : List Located) (tokens : List Lexed) → SpellsAll constituent text forms tokens → length text < 2 ^ 31 → shape.tokens_of (forms_of forms) ≤ 18446744073709551615
 few_parts constituent text forms tokens spelled short =
     omega (arith, forms_length constituent 1 forms tokens spelled.spelled, tokens_few text tokens spelled.before [] spelled.reads, short)
+
+first_below : (most : ℕ) (faults : List ℕ) → Each (λ at. at < most) faults → most ≤ 18446744073709551615 → option_map shape.capped (shape.first_of faults) ≡ shape.first_of faults
+first_below most [] below small = refl
+first_below most (at ∷ faults) below small = let same : shape.capped at ≡ at = omega (arith, below.0, small) in ap (λ n. Some n) same
+
+-- the token of the first fault, as it is told of lent forms
+pub fault_told : (constituent : ℕ) (text : List ℕ) (forms lent : List Located) (tokens : List Lexed) (told : Option ℕ) → SpellsAll constituent text forms tokens → length text < 2 ^ 31 → lent ≡ forms → told ≡ option_map shape.capped (shape.first_forms_fault (forms_of lent)) → told ≡ shape.first_forms_fault (forms_of forms)
+fault_told constituent text forms lent tokens told spelled short same is =
+    is ∙ ap (λ l. option_map shape.capped (shape.first_forms_fault (forms_of l))) same
+    ∙ first_below (shape.tokens_of (forms_of forms)) (shape.forms_faults (forms_of forms)) (forms_below (forms_of forms)) (few_parts constituent text forms tokens spelled short)
 
 first_of_each : (P : ℕ → Type 0) (xs : List ℕ) (x : ℕ) → Each P xs → Some x ≡ shape.first_of xs → P x
 first_of_each P [] x each e = absurd (cc)

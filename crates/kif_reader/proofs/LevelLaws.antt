@@ -1,5 +1,5 @@
 -- Tokens of whole forms leave the level as it is, and each list that is open adds one; so it is from every smaller level too.
-use Rattle.std.proofs.Common.{◌≡◌, ℕ, ◌+◌, ◌-◌, ◌<◌, ◌≤◌, Bool, true, false, cond, eqb, ltb, Option, Some, None, List, [], ◌∷◌, ◌++◌, length, map, sym, ap, ◌∙◌, refl, subst, arith, append_assoc, append-nil}
+use Rattle.std.proofs.Common.{◌≡◌, ℕ, ◌+◌, ◌-◌, ◌<◌, ◌≤◌, Bool, true, false, cond, eqb, ltb, Option, Some, None, List, [], ◌∷◌, ◌++◌, length, map, sym, ap, ◌∙◌, refl, subst, arith}
 use Rattle.std.specs.List.{flat_map}
 use Rattle.std.proofs.lemmas.List.{map-append}
 use Rattle.std.proofs.lemmas.Option.{same_Some}
@@ -7,7 +7,6 @@ use Rattle.std.proofs.lemmas.Bool.{lt-ltb}
 use Rattle.std.proofs.lemmas.Bool.Decides.{nat_tests}
 use Rattle.sigma_base.specs.Lists.{Each}
 use Rattle.kif_tree.specs.declared.form.Form.{Form}
-use Rattle.kif_tree.specs.declared.form.Form.TheVariants as form
 use Rattle.kif_tree.specs.declared.place.Located.{Located}
 use Rattle.kif_tree.specs.FormLaws.{induction}
 use Rattle.kif_reader.specs.Bytes.{IsPlace}
@@ -16,7 +15,7 @@ use Rattle.kif_reader.specs.Spelling.{Lexed, Spelled, bare, level, level_behind,
 use Rattle.kif_reader.specs.Steps.{SpellsOpen, SpellsOpens}
 use Rattle.kif_reader.specs.declared.kinds.Open.{Open}
 use Rattle.kif_reader.specs.declared.kinds.TokenKind.{TokenKind}
-use Rattle.kif_reader.specs.declared.kinds.TokenKind.TheVariants.{Left, Right, Word, Variable, Row, Numeral, Quoted}
+use Rattle.kif_reader.specs.declared.kinds.TokenKind.TheVariants.{Left, Right}
 use Rattle.kif_reader.proofs.SpellingLaws.{spelling_word, spelling_variable, spelling_row, spelling_numeral, spelling_quoted, spelling_list}
 
 -- the level behind tokens, whose places don't matter

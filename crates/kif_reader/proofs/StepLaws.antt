@@ -59,9 +59,8 @@ record Stepped (constituent : ℕ) (text before rest : List ℕ) (forms : List L
   more : length forms ≤ count + 1
 
 module _ (constituent : ℕ) (text before rest : List ℕ) (forms new_forms : List Located) (lists new_lists : List Open) (closed opened : List Lexed) (at_line at_column : ℕ) (x : Lexed)
-  (reads : Reads text ((closed ++ opened) ++ x ∷ []) before rest) (nests : level 0 (closed ++ opened) ≡ Some (length lists)) (whole : SpellsForms constituent 1 forms closed) (open_lists : SpellsOpens lists opened)
-  (few : length lists ≤ 200) (place : IsPlace at_line at_column x.before) where
-
+    (reads : Reads text ((closed ++ opened) ++ x ∷ []) before rest) (nests : level 0 (closed ++ opened) ≡ Some (length lists)) (whole : SpellsForms constituent 1 forms closed) (open_lists : SpellsOpens lists opened)
+    (few : length lists ≤ 200) (place : IsPlace at_line at_column x.before) where
   leaf_step : level_behind x.kind (length lists) ≡ Some (length lists) → FollowsLeaf constituent x.kind x.bytes at_line at_column forms new_forms lists new_lists → Stepped constituent text before rest new_forms new_lists (length forms)
   leaf_step keeps f =
       let built = rebuild constituent f.part at_line at_column forms new_forms lists new_lists closed opened (x ∷ []) whole open_lists (record { spelled = sym f.spelled; place = place }) f.adds in
@@ -102,7 +101,7 @@ module _ (constituent : ℕ) (text before rest : List ℕ) (forms new_forms : Li
       } in
       let built = rebuild constituent (form.List f.last.parts) f.last.line f.last.column forms new_forms f.front new_lists closed last.before (last.mine ++ x ∷ []) whole last.all part f.adds in
       let same : built.closed ++ built.opened ≡ (closed ++ opened) ++ x ∷ [] =
-        built.same ∙ append_assoc closed last.before (last.mine ++ x ∷ []) ∙ ap (λ t. closed ++ t) (sym (append_assoc last.before last.mine (x ∷ [])) ∙ ap (λ t. t ++ x ∷ []) (sym last.split)) ∙ sym (append_assoc closed opened (x ∷ [])) in
+      built.same ∙ append_assoc closed last.before (last.mine ++ x ∷ []) ∙ ap (λ t. closed ++ t) (sym (append_assoc last.before last.mine (x ∷ [])) ∙ ap (λ t. t ++ x ∷ []) (sym last.split)) ∙ sym (append_assoc closed opened (x ∷ [])) in
       let some : eqb (length f.front + 1) 0 ≡ false = grind (arith, nat_tests) in
       let one_less : length f.front + 1 - 1 ≡ length new_lists = omega (arith, built.deep) in
       record {
@@ -118,8 +117,8 @@ module _ (constituent : ℕ) (text before rest : List ℕ) (forms new_forms : Li
       }
 
 steps : (constituent : ℕ) (text before rest : List ℕ) (forms new_forms : List Located) (lists new_lists : List Open) (closed opened : List Lexed) (at_line at_column : ℕ) (kind : TokenKind) (bytes here : List ℕ) →
-  Reads text ((closed ++ opened) ++ record { kind = kind; bytes = bytes; before = here } ∷ []) before rest → level 0 (closed ++ opened) ≡ Some (length lists) → SpellsForms constituent 1 forms closed → SpellsOpens lists opened →
-  length lists ≤ 200 → IsPlace at_line at_column here → IsToken kind bytes rest → Follows constituent kind bytes at_line at_column forms new_forms lists new_lists → Stepped constituent text before rest new_forms new_lists (length forms)
+    Reads text ((closed ++ opened) ++ record { kind = kind; bytes = bytes; before = here } ∷ []) before rest → level 0 (closed ++ opened) ≡ Some (length lists) → SpellsForms constituent 1 forms closed → SpellsOpens lists opened →
+    length lists ≤ 200 → IsPlace at_line at_column here → IsToken kind bytes rest → Follows constituent kind bytes at_line at_column forms new_forms lists new_lists → Stepped constituent text before rest new_forms new_lists (length forms)
 steps constituent text before rest forms new_forms lists new_lists closed opened at_line at_column Left bytes here r n w o few place is f = left_step constituent text before rest forms new_forms lists new_lists closed opened at_line at_column (record { kind = Left; bytes = bytes; before = here }) r n w o few place refl is f
 steps constituent text before rest forms new_forms lists new_lists closed opened at_line at_column Right bytes here r n w o few place is f = right_step constituent text before rest forms new_forms lists new_lists closed opened at_line at_column (record { kind = Right; bytes = bytes; before = here }) r n w o few place refl is f
 steps constituent text before rest forms new_forms lists new_lists closed opened at_line at_column Word bytes here r n w o few place is f = leaf_step constituent text before rest forms new_forms lists new_lists closed opened at_line at_column (record { kind = Word; bytes = bytes; before = here }) r n w o few place refl f
@@ -144,7 +143,7 @@ took_less token old new took = omega (arith, some_token token.kind token.text.no
 pub held_step : (constituent : ℕ) (text : List ℕ) (token : Token) (old new : Progress) (forms new_forms : List Located) (lists new_lists : List Open) → Held constituent text old forms lists → Took token old new → Follows constituent token.kind token.text.now token.line token.column forms new_forms lists new_lists → Held constituent text new new_forms new_lists
 held_step constituent text token old new forms new_forms lists new_lists held took follows =
     let step = steps constituent text new.before new.rest forms new_forms lists new_lists held.closed held.opened token.line token.column token.kind token.text.now (old.before ++ took.skipped)
-      (reads_took text (held.closed ++ held.opened) token old new took held.reads) held.nests held.whole held.open_lists held.few took.place took.is follows in
+    (reads_took text (held.closed ++ held.opened) token old new took held.reads) held.nests held.whole held.open_lists held.few took.place took.is follows in
     record {
       going = took.goes_on;
       closed = step.closed;
@@ -163,13 +162,15 @@ reads_finished text tokens old new ends r = reads_idle text tokens old.before ol
 
 pub held_spells : (constituent : ℕ) (text : List ℕ) (old new : Progress) (forms : List Located) → Held constituent text old forms [] → Finished old new → (tokens : List Lexed) × SpellsAll constituent text forms tokens
 held_spells constituent text old new forms held ends =
-    let all : held.closed ++ held.opened ≡ held.closed = ap (λ t. held.closed ++ t) held.open_lists ∙ append-nil held.closed in
-    (held.closed, record {
-      before = old.before ++ old.rest;
-      reads = subst (λ t. Reads text t (old.before ++ old.rest) []) all (reads_finished text (held.closed ++ held.opened) old new ends held.reads);
-      nests = ap (level 0) (sym all) ∙ held.nests;
-      spelled = held.whole;
-    })
+    let all : held.closed ++ held.opened ≡ held.closed = ap (λ t. held.closed ++ t) held.open_lists ∙ append-nil held.closed in (
+      held.closed,
+      record {
+        before = old.before ++ old.rest;
+        reads = subst (λ t. Reads text t (old.before ++ old.rest) []) all (reads_finished text (held.closed ++ held.opened) old new ends held.reads);
+        nests = ap (level 0) (sym all) ∙ held.nests;
+        spelled = held.whole;
+      },
+    )
 
 pub held_open : (constituent : ℕ) (text : List ℕ) (old new : Progress) (forms : List Located) (list : Open) (lists : List Open) → Held constituent text old forms (list ∷ lists) → Finished old new → LeavesOpen list.line list.column text
 held_open constituent text old new forms list lists held ends =
@@ -218,7 +219,7 @@ nest_fault constituent text token old new forms lists kind depth byte spot held 
   before = old.before ++ took.skipped;
   rest = new.rest;
   reads = subst (λ b. Reads text (held.closed ++ held.opened) (old.before ++ took.skipped) (b ++ new.rest)) bytes
-    (reads_idle text (held.closed ++ held.opened) old.before took.skipped (token.text.now ++ new.rest) (subst (Reads text (held.closed ++ held.opened) old.before) took.left held.reads) took.idle);
+      (reads_idle text (held.closed ++ held.opened) old.before took.skipped (token.text.now ++ new.rest) (subst (Reads text (held.closed ++ held.opened) old.before) took.left held.reads) took.idle);
   nests = held.nests ∙ ap (λ k. Some k) refuses.level_is;
   place = record { line = refuses.line ∙ took.place.line; column = refuses.column ∙ took.place.column };
 }

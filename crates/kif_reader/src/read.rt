@@ -1,4 +1,4 @@
-ghost use Rattle.std.specs.Prelude.{◌≡◌, ◌≤◌, ◌∷◌, [], ◌++◌, ◌+◌, ◌<◌, ◌^◌, true, ℕ, List, All, Some, IfOk, IfErr, OnOk, length, slice_get, MatchResult, vec_len};
+ghost use Rattle.std.specs.Prelude.{◌≡◌, ◌≤◌, ◌∷◌, [], ◌++◌, ◌+◌, ◌<◌, ◌^◌, ◌⊎◌, ◌≢◌, true, ℕ, List, All, Some, IfOk, IfErr, IsErrAnd, OnOk, length, slice_get, MatchResult, vec_len};
 ghost use Rattle.kif_tree.specs.Shape.{is_shaped};
 ghost use Rattle.kif_reader.specs.Bytes.{IsPlace};
 ghost use Rattle.kif_reader.specs.Cut.{IsToken};
@@ -10,8 +10,8 @@ use crate::bytes::Spot;
 use crate::kinds::{LexError, Open, ReadError, Token, TokenKind};
 use crate::leaves::leaf;
 use crate::tokens::Tokens;
-use sigma_base::{Listed, NoMemory};
 use kif_tree::{Form, Located, Place, first_fault_in};
+use sigma_base::{Listed, NoMemory};
 use std::alloc::{AllocError, Global};
 
 /// Puts a form behind the parts of the innermost open list, or behind the forms.
@@ -45,23 +45,19 @@ fn add(
                 mut parts,
             } = list;
             parts.push(form)?;
-            lists.push(Open {
-                line,
-                column,
-                parts,
-            })
-            .map_err(AllocError::from)?;
+            lists
+                .push(Open {
+                    line,
+                    column,
+                    parts,
+                })
+                .map_err(AllocError::from)?;
         }
     }
     Ok(())
 }
 
-fn open_list(
-    alloc: Global,
-    lists: &mut Vec<Open>,
-    line: u32,
-    column: u32,
-) -> Result<(), NoMemory>
+fn open_list(alloc: Global, lists: &mut Vec<Open>, line: u32, column: u32) -> Result<(), NoMemory>
     ensures { OnOk result (lists.new.items ≡ lists.old.items ++ record { line = line; column = column; parts = [] } ∷ []) }
 {
     lists
@@ -185,6 +181,8 @@ pub fn read_forms(alloc: Global, text: &[u8], constituent: u32) -> Result<Vec<Lo
     ensures forms { IfOk result (λ forms. Spells constituent text.now forms.items) }
     ensures shaped { IfOk result (λ forms. All (λ located. is_shaped located.form ≡ true) forms.items) }
     ensures fault { IfErr result (λ error. FirstFault constituent text.now error) }
+    ensures spelled { (forms : List Located) → Spells constituent text.now forms → MatchResult result (λ read. read.items ≡ forms) (λ error. error ≡ ReadError.NoMemory) }
+    ensures unspelled { (error : ReadError) → error ≢ ReadError.NoMemory → FirstFault constituent text.now error → IsErrAnd result (λ found. (found ≡ error) ⊎ (found ≡ ReadError.NoMemory)) }
 {
     let forms = read_trees(alloc, text, constituent)?;
     match first_fault_in(&forms) {

@@ -1,7 +1,6 @@
-use Rattle.std.proofs.Common.{◌≡◌, ◌+◌, ◌-◌, ◌<◌, length, ap, subst, arith, rules}
-use Rattle.kif_reader.specs.Reading.{Took, Met, Ended, Finished}
+use Rattle.std.proofs.Common.{◌≡◌, ◌+◌, ◌-◌, subst, arith, rules}
+use Rattle.kif_reader.specs.Reading.{Took, Met, Ended}
 use Rattle.kif_reader.proofs.CountLaws.{Counted, counted_step, counted_found, counted_ended, counted_met}
-use Rattle.kif_reader.proofs.ReadingIsOneLaws.{tokens_unique}
 use Rattle.kif_reader.proofs.read.token_spot.Goals as goal
 
 pub returns-then-left-eq0 : goal.returns-then-left-eq0
