@@ -1,10 +1,9 @@
 -- Where tokens nest well, those of each form do.
-use Rattle.std.proofs.Common.{◌≡◌, ℕ, ◌+◌, Some, List, [], ◌∷◌, ◌++◌, map, sym, ap, ◌∙◌, subst, arith}
+use Rattle.std.proofs.Common.{◌≡◌, ℕ, ◌+◌, Some, List, [], ◌∷◌, map, sym, ap, ◌∙◌, subst, arith}
 use Rattle.std.proofs.lemmas.List.{map-append}
 use Rattle.std.proofs.lemmas.Option.{same_Some}
 use Rattle.sigma_base.specs.Lists.{Each}
 use Rattle.kif_tree.specs.declared.place.Located.{Located}
-use Rattle.kif_reader.specs.Chunks.{◌>>=◌}
 use Rattle.kif_reader.specs.Spelling.{Lexed, bare, level, spelling, SpellsForms}
 use Rattle.kif_reader.proofs.LevelLaws.{bare_level, same_level, bare-append, through, form_rises}
 

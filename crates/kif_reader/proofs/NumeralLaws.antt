@@ -1,5 +1,5 @@
 -- The test for numerals decides what a numeral is.
-use Rattle.std.proofs.Common.{◌≡◌, ℕ, ◌<◌, ◌⊎◌, inl, inr, Bool, true, false, cond, eqb, ◌||◌, Option, Some, None, List, [], ◌∷◌, ◌++◌, length, take, drop, codes, sym, ap, ◌∙◌, refl, subst, arith, append-nil, append_assoc}
+use Rattle.std.proofs.Common.{◌≡◌, ℕ, ◌⊎◌, inl, inr, true, false, cond, eqb, ◌||◌, Option, Some, None, List, [], ◌∷◌, ◌++◌, length, take, drop, codes, sym, ap, ◌∙◌, refl, subst, arith, append-nil}
 use Rattle.std.specs.Bool.{Decides}
 use Rattle.std.specs.Char.{is_ascii_digit}
 use Rattle.std.specs.List.{list_all, prefix_len}
@@ -19,8 +19,8 @@ digits_after ds r is stops =
     let n = prefix_len is_ascii_digit t in
     let one = run_unique is_ascii_digit (take n t) ds (drop n t) r (all_front is_ascii_digit t) (stops_behind is_ascii_digit t) is.all stops (take-append-drop n t) in
     elim (eqb n 0) as (λ b. eqb n 0 ≡ b → cond b None (Some (drop n t)) ≡ Some r) [
-      true ↦ λ e. let long : length ds ≡ n = ap length (sym one.0) ∙ length-prefix_len is_ascii_digit t in let none : n ≡ 0 = grind (arith, nat_tests, e) in let some = is.some in absurd (omega (arith, long, none, some))
-    | false ↦ λ e. ap Some one.1
+      | true ↦ λ e. let long : length ds ≡ n = ap length (sym one.0) ∙ length-prefix_len is_ascii_digit t in let none : n ≡ 0 = grind (arith, nat_tests, e) in let some = is.some in absurd (omega (arith, long, none, some))
+      | false ↦ λ e. ap Some one.1
     ] refl
 
 record DigitsFront (t r : List ℕ) : Type 0 where
@@ -32,11 +32,11 @@ digits_front : (t r : List ℕ) → after_digits t ≡ Some r → DigitsFront t 
 digits_front t r =
     let n = prefix_len is_ascii_digit t in
     elim (eqb n 0) as (λ b. eqb n 0 ≡ b → cond b None (Some (drop n t)) ≡ Some r → DigitsFront t r) [
-      true ↦ λ e is. absurd (cc)
-    | false ↦ λ e is.
-      let rest : drop n t ≡ r = cc in
-      let long = length-prefix_len is_ascii_digit t in
-      record { digits = take n t; is = record { some = grind (arith, nat_tests, e, long); all = all_front is_ascii_digit t }; spelled = sym (take-append-drop n t) ∙ ap (λ l. take n t ++ l) rest }
+      | true ↦ λ e is. absurd (cc)
+      | false ↦ λ e is.
+          let rest : drop n t ≡ r = cc in
+          let long = length-prefix_len is_ascii_digit t in
+          record { digits = take n t; is = record { some = grind (arith, nat_tests, e, long); all = all_front is_ascii_digit t }; spelled = sym (take-append-drop n t) ∙ ap (λ l. take n t ++ l) rest }
     ] refl
 
 -- ---- numerals pass the test
@@ -46,8 +46,8 @@ not_first [] r byte is other = let some = is.some in absurd (omega (arith, some)
 not_first (d ∷ ds) r byte is other =
     let digit = (both (is_ascii_digit d) (list_all is_ascii_digit ds) is.all).0 in
     elim (eqb d byte) as (λ b. eqb d byte ≡ b → b ≡ false) [
-      true ↦ λ e. let same : d ≡ byte = grind (arith, nat_tests, e) in let no : true ≡ false = sym digit ∙ ap is_ascii_digit same ∙ other in absurd (cc)
-    | false ↦ λ e. refl
+      | true ↦ λ e. let same : d ≡ byte = grind (arith, nat_tests, e) in let no : true ≡ false = sym digit ∙ ap is_ascii_digit same ∙ other in absurd (cc)
+      | false ↦ λ e. refl
     ] refl
 
 sign_passed : (sign ds : List ℕ) → (sign ≡ []) ⊎ ((sign ≡ codes "+") ⊎ (sign ≡ codes "-")) → IsDigits ds → after_sign (sign ++ ds) ≡ ds
@@ -121,9 +121,9 @@ fraction_front : (t r : List ℕ) → after_fraction t ≡ Some r → Front IsFr
 unfolding after_fraction
 fraction_front [] r = λ e. record { part = []; is = inl refl; spelled = some_same [] r e }
 fraction_front (b ∷ t) r = elim (eqb b 46) as (λ x. eqb b 46 ≡ x → cond x (after_digits t) (Some (b ∷ t)) ≡ Some r → Front IsFraction (b ∷ t) r) [
-    true ↦ λ s e. let d = digits_front t r e in let point : b ≡ 46 = grind (arith, nat_tests, s) in record { part = codes "." ++ d.digits; is = inr (d.digits, d.is, refl); spelled = λ i. point i ∷ d.spelled i }
+  | true ↦ λ s e. let d = digits_front t r e in let point : b ≡ 46 = grind (arith, nat_tests, s) in record { part = codes "." ++ d.digits; is = inr (d.digits, d.is, refl); spelled = λ i. point i ∷ d.spelled i }
   | false ↦ λ s e. record { part = []; is = inl refl; spelled = some_same (b ∷ t) r e }
-  ] refl
+] refl
 
 abbrev IsSign : List ℕ → Type 0
 IsSign text = (text ≡ []) ⊎ ((text ≡ codes "+") ⊎ (text ≡ codes "-"))
@@ -131,12 +131,12 @@ IsSign text = (text ≡ []) ⊎ ((text ≡ codes "+") ⊎ (text ≡ codes "-"))
 sign_front : (t : List ℕ) → Front IsSign t (after_sign t)
 sign_front [] = record { part = []; is = inl refl; spelled = refl }
 sign_front (b ∷ t) = elim (eqb b 43) as (λ x. eqb b 43 ≡ x → Front IsSign (b ∷ t) (cond (x || eqb b 45) t (b ∷ t))) [
-    true ↦ λ s. let plus : b ≡ 43 = grind (arith, nat_tests, s) in record { part = codes "+"; is = inr (inl refl); spelled = λ i. plus i ∷ t }
+  | true ↦ λ s. let plus : b ≡ 43 = grind (arith, nat_tests, s) in record { part = codes "+"; is = inr (inl refl); spelled = λ i. plus i ∷ t }
   | false ↦ λ _. elim (eqb b 45) as (λ x. eqb b 45 ≡ x → Front IsSign (b ∷ t) (cond x t (b ∷ t))) [
-        true ↦ λ s. let minus : b ≡ 45 = grind (arith, nat_tests, s) in record { part = codes "-"; is = inr (inr refl); spelled = λ i. minus i ∷ t }
-      | false ↦ λ s. record { part = []; is = inl refl; spelled = refl }
-      ] refl
+    | true ↦ λ s. let minus : b ≡ 45 = grind (arith, nat_tests, s) in record { part = codes "-"; is = inr (inr refl); spelled = λ i. minus i ∷ t }
+    | false ↦ λ s. record { part = []; is = inl refl; spelled = refl }
   ] refl
+] refl
 
 power_of : (b : ℕ) (t letter : List ℕ) → b ∷ [] ≡ letter → (letter ≡ codes "e") ⊎ (letter ≡ codes "E") → after_digits (after_sign t) ≡ Some [] → IsPower (b ∷ t)
 power_of b t letter same is e =
@@ -148,19 +148,19 @@ exponent_is : (t : List ℕ) → after_exponent t ≡ Some [] → IsExponent t
 unfolding after_exponent
 exponent_is [] = λ e. inl refl
 exponent_is (b ∷ t) = elim (eqb b 69) as (λ x. eqb b 69 ≡ x → cond (x || eqb b 101) (after_digits (after_sign t)) (Some (b ∷ t)) ≡ Some [] → IsExponent (b ∷ t)) [
-    true ↦ λ s e. let large : b ≡ 69 = grind (arith, nat_tests, s) in inr (power_of b t (codes "E") (ap (λ c. c ∷ []) large) (inr refl) e)
+  | true ↦ λ s e. let large : b ≡ 69 = grind (arith, nat_tests, s) in inr (power_of b t (codes "E") (ap (λ c. c ∷ []) large) (inr refl) e)
   | false ↦ λ _. elim (eqb b 101) as (λ x. eqb b 101 ≡ x → cond x (after_digits (after_sign t)) (Some (b ∷ t)) ≡ Some [] → IsExponent (b ∷ t)) [
-        true ↦ λ s e. let small : b ≡ 101 = grind (arith, nat_tests, s) in inr (power_of b t (codes "e") (ap (λ c. c ∷ []) small) (inl refl) e)
-      | false ↦ λ s e. inl (some_same (b ∷ t) [] e)
-      ] refl
+    | true ↦ λ s e. let small : b ≡ 101 = grind (arith, nat_tests, s) in inr (power_of b t (codes "e") (ap (λ c. c ∷ []) small) (inl refl) e)
+    | false ↦ λ s e. inl (some_same (b ∷ t) [] e)
   ] refl
+] refl
 
 minus_front : (t : List ℕ) → Front IsMinus t (after_minus t)
 minus_front [] = record { part = []; is = inl refl; spelled = refl }
 minus_front (b ∷ t) = elim (eqb b 45) as (λ x. eqb b 45 ≡ x → Front IsMinus (b ∷ t) (cond x t (b ∷ t))) [
-    true ↦ λ s. let minus : b ≡ 45 = grind (arith, nat_tests, s) in record { part = codes "-"; is = inr refl; spelled = λ i. minus i ∷ t }
+  | true ↦ λ s. let minus : b ≡ 45 = grind (arith, nat_tests, s) in record { part = codes "-"; is = inr refl; spelled = λ i. minus i ∷ t }
   | false ↦ λ s. record { part = []; is = inl refl; spelled = refl }
-  ] refl
+] refl
 
 -- a step of the chain that gives something had something
 step : (o : Option (List ℕ)) (f : List ℕ → Option (List ℕ)) (x : List ℕ) → (o >>= f) ≡ Some x → (m : List ℕ) × (o ≡ Some m) × (f m ≡ Some x)

@@ -1,5 +1,5 @@
 -- The printed text of a form spells that form.
-use Rattle.std.proofs.Common.{◌≡◌, ℕ, ◌+◌, Bool, true, false, cond, Option, Some, None, List, [], ◌∷◌, ◌++◌, map, take, drop, sym, ap, ◌∙◌, refl, subst, append_assoc, append-nil}
+use Rattle.std.proofs.Common.{◌≡◌, ℕ, ◌+◌, Bool, true, false, cond, Some, None, List, [], ◌∷◌, ◌++◌, map, take, drop, sym, ap, ◌∙◌, refl, subst, append-nil}
 use Rattle.std.specs.List.{flat_map}
 use Rattle.std.specs.Str.{bytes_eq}
 use Rattle.std.proofs.lemmas.List.{map-append}
@@ -11,14 +11,14 @@ use Rattle.kif_tree.specs.declared.form.Form.TheVariants as form
 use Rattle.kif_tree.specs.declared.place.Located.{Located}
 use Rattle.kif_tree.specs.FormLaws.{induction}
 use Rattle.kif_tree.specs.Printed.{form_text, spaced, after_blank}
-use Rattle.kif_tree.specs.Shape.{first_of, first_form_fault, first_forms_fault, form_faults}
+use Rattle.kif_tree.specs.Shape.{first_of, first_form_fault, form_faults}
 use Rattle.kif_tree.proofs.PrintLaws.{form_text-Word, form_text-Variable, form_text-Row, form_text-Numeral, form_text-Quoted, form_text-List}
 use Rattle.kif_reader.specs.Bytes.{is_chunk_byte}
-use Rattle.kif_reader.specs.Cut.{Piece, Blank, Comment, Lexeme, bytes_of, joined, Stands, Stand, Stops, IsToken, IsChunkOf, is_outside, quoted}
+use Rattle.kif_reader.specs.Cut.{Piece, Blank, Lexeme, bytes_of, joined, Stand, Stops, IsToken, IsChunkOf, is_outside, quoted}
 use Rattle.kif_reader.specs.Laws.{alone}
 use Rattle.kif_reader.specs.Reading.{mark_len}
 use Rattle.kif_reader.specs.Spellable.{IsSpellable}
-use Rattle.kif_reader.specs.Spelling.{Lexed, tokens_of, level, bare, BeginsAt, spelling, Spelled, forms_of, SpellsForms, Reads, Spells}
+use Rattle.kif_reader.specs.Spelling.{tokens_of, bare, spelling, Spelled, forms_of, Spells}
 use Rattle.kif_reader.specs.declared.kinds.TokenKind.{TokenKind}
 use Rattle.kif_reader.specs.declared.kinds.TokenKind.TheVariants.{Left, Right, Word, Variable, Row, Numeral, Quoted}
 use Rattle.kif_reader.proofs.FaultLaws.{piece_outside}
@@ -132,9 +132,9 @@ len_if t = cond t 3 0
 
 no_mark_first : (b : ℕ) (more : List ℕ) → is_outside b ≡ true → mark_len (b ∷ more) ≡ 0
 no_mark_first b more outside = elim (bytes_eq (take 3 (b ∷ more)) (239 ∷ 187 ∷ 191 ∷ [])) as (λ t. bytes_eq (take 3 (b ∷ more)) (239 ∷ 187 ∷ 191 ∷ []) ≡ t → len_if t ≡ 0) [
-    true ↦ λ e. let same = (bytes_eq-Decides (take 3 (b ∷ more)) (239 ∷ 187 ∷ 191 ∷ [])).0 e in let byte : b ≡ 239 = cc in let no : true ≡ false = sym outside ∙ ap is_outside byte in absurd (cc)
+  | true ↦ λ e. let same = (bytes_eq-Decides (take 3 (b ∷ more)) (239 ∷ 187 ∷ 191 ∷ [])).0 e in let byte : b ≡ 239 = cc in let no : true ≡ false = sym outside ∙ ap is_outside byte in absurd (cc)
   | false ↦ λ e. refl
-  ] refl
+] refl
 
 no_mark : (p : Piece) (ps : List Piece) → Stand (p ∷ ps) [] → mark_len (joined (p ∷ ps)) ≡ 0
 no_mark p ps stand =

@@ -1,5 +1,5 @@
 -- The forms that a text spells: their leaves are of their kinds, the word of answer literals isn't in them, and each has its shape.
-use Rattle.std.proofs.Common.{◌≡◌, ℕ, ◌+◌, Bool, true, false, ◌&&◌, ◌||◌, Option, Some, None, List, [], ◌∷◌, ◌++◌, map, sym, ap, ◌∙◌, refl, subst}
+use Rattle.std.proofs.Common.{◌≡◌, ℕ, ◌+◌, Bool, true, false, ◌&&◌, ◌||◌, Some, None, List, [], ◌∷◌, ◌++◌, map, sym, ap, ◌∙◌, refl, subst}
 use Rattle.std.specs.Prelude.{codes, is_none, not}
 use Rattle.std.specs.List.{list_any, flat_map}
 use Rattle.std.specs.Str.{bytes_eq}
@@ -10,12 +10,12 @@ use Rattle.kif_tree.specs.declared.form.Form.{Form}
 use Rattle.kif_tree.specs.declared.form.Form.TheVariants as form
 use Rattle.kif_tree.specs.declared.place.Located.{Located}
 use Rattle.kif_tree.specs.FormLaws.{induction, fold-Variable, fold-Row, fold-Numeral, fold-Quoted}
-use Rattle.kif_tree.specs.Shape.{has_word, has_word_step, Part, faults_from, form_faults, as_top, first_of, first_form_fault, first_forms_fault, is_shaped, token_count}
+use Rattle.kif_tree.specs.Shape.{has_word, has_word_step, faults_from, form_faults, as_top, first_of, first_form_fault, is_shaped, token_count}
 use Rattle.kif_tree.proofs.ShapeLaws.{has_word-Word, has_word-List}
 use Rattle.kif_reader.specs.Chunks.{kind_of_chunk, is_numeral}
 use Rattle.kif_reader.specs.Cut.{Piece, Blank, Comment, Lexeme, joined, Stand, IsToken, IsChunkOf}
 use Rattle.kif_reader.specs.Spellable.{IsSpellable}
-use Rattle.kif_reader.specs.Spelling.{Lexed, tokens_of, bare, spelling, Spelled, SpellsForms, SpellsAll, Spells, forms_of}
+use Rattle.kif_reader.specs.Spelling.{Lexed, tokens_of, bare, spelling, SpellsForms, SpellsAll, Spells, forms_of}
 use Rattle.kif_reader.specs.declared.kinds.TokenKind.{TokenKind}
 use Rattle.kif_reader.specs.declared.kinds.TokenKind.TheVariants.{Left, Right, Word, Variable, Row, Numeral, Quoted}
 use Rattle.kif_reader.proofs.SpellingLaws.{spelling_word, spelling_list}
@@ -68,9 +68,9 @@ parts_spellable parts is =
 
 no_word : (name text : List ℕ) → kind_of_chunk name ≡ None → kind_of_chunk text ≡ Some Word → bytes_eq name text ≡ false
 no_word name text none some = elim (bytes_eq name text) as (λ b. bytes_eq name text ≡ b → b ≡ false) [
-    true ↦ λ e. let same = (bytes_eq-Decides name text).0 e in let no : None ≡ Some Word = sym none ∙ ap kind_of_chunk same ∙ some in absurd (cc)
+  | true ↦ λ e. let same = (bytes_eq-Decides name text).0 e in let no : None ≡ Some Word = sym none ∙ ap kind_of_chunk same ∙ some in absurd (cc)
   | false ↦ λ e. refl
-  ] refl
+] refl
 
 either : (a b : Bool) → a ≡ false → b ≡ false → (a || b) ≡ false
 either a b e f = λ i. e i || f i
