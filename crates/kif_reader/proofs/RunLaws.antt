@@ -10,7 +10,8 @@ use Rattle.kif_reader.specs.Runs.{Gives, IsTold, TellsTokens, TellsFault}
 use Rattle.kif_reader.specs.Spelling.{Lexed, Reads, tokens_of}
 use Rattle.kif_reader.specs.declared.kinds.LexError.{LexError}
 use Rattle.kif_reader.specs.declared.kinds.Token.{Token}
-use Rattle.kif_reader.proofs.ReadLaws.{reads_idle, reads_token}
+use Rattle.kif_reader.proofs.ReadLaws.{reads_idle}
+use Rattle.kif_reader.proofs.StepLaws.{reads_took, reads_finished}
 
 reads_start : (text : List ℕ) (new : Progress) → Starts text new → Reads text [] new.before new.rest
 reads_start text new starts = record { pieces = []; cuts = record { whole = sym starts.rest; stand = tt }; taken = starts.before ∙ sym (append-nil (take (mark_len text) text)); is = refl }
@@ -24,12 +25,10 @@ told_push (t ∷ ts) (l ∷ ls) token last all one = (all.0, told_push ts ls tok
 -- one token more
 tells_more : (text : List ℕ) (tokens : List Token) (token : Token) (old new : Progress) → Took token old new → TellsTokens text tokens old.before old.rest → TellsTokens text (tokens ++ token ∷ []) new.before new.rest
 tells_more text tokens token old new took is =
-    let idle = reads_idle text is.lexed old.before took.skipped (token.text.now ++ new.rest) (subst (Reads text is.lexed old.before) took.left is.reads) took.idle in
     let last : Lexed = record { kind = token.kind; bytes = token.text.now; before = old.before ++ took.skipped } in
-    let more = reads_token text is.lexed (old.before ++ took.skipped) new.rest token.kind token.text.now idle took.is in
     record {
       lexed = is.lexed ++ last ∷ [];
-      reads = subst (λ b. Reads text (is.lexed ++ last ∷ []) b new.rest) (append_assoc old.before took.skipped token.text.now ∙ sym took.taken) more;
+      reads = reads_took text is.lexed token old new took is.reads;
       told = told_push tokens is.lexed token last is.told (record { kind = refl; bytes = refl; place = took.place });
     }
 
@@ -44,8 +43,7 @@ gives_tokens text start now tokens starts gives = tells_all text [] tokens start
 pub gives_whole : (text : List ℕ) (start now last : Progress) (tokens : List Token) → Starts text start → Gives tokens start now → Finished now last → TellsTokens text tokens last.before []
 gives_whole text start now last tokens starts gives ends =
     let is = gives_tokens text start now tokens starts gives in
-    let whole = reads_idle text is.lexed now.before now.rest [] (subst (Reads text is.lexed now.before) (sym (append-nil now.rest)) is.reads) ends.idle in
-    record { lexed = is.lexed; reads = subst (λ b. Reads text is.lexed b []) (sym ends.taken) whole; told = is.told }
+    record { lexed = is.lexed; reads = subst (λ b. Reads text is.lexed b []) (sym ends.taken) (reads_finished text is.lexed now last ends is.reads); told = is.told }
 
 pub gives_fault : (text : List ℕ) (start now last : Progress) (tokens : List Token) (error : LexError) → Starts text start → Gives tokens start now → Met error now last → TellsFault text tokens error
 gives_fault text start now last tokens error starts gives met =
