@@ -6,7 +6,7 @@ use Rattle.std.specs.Int.Digits.{digits_of}
 use Rattle.std.proofs.lemmas.Int.Digits.{same_from_digits_of}
 use Rattle.std.proofs.lemmas.Slice.Eq.{bytes_eq-Decides}
 use Rattle.std.proofs.lemmas.Bool.Decides.{same_from_decides}
-use Rattle.sigma_base.specs.Lists.{Each, each_append, each_left, each_right, each_map, each_both, each_filter, map_each}
+use Rattle.sigma_base.specs.Lists.{Each, each_append, each_left, each_right, each_map, each_both, map_each}
 use Rattle.kif_tree.specs.declared.form.Form.{Form, out-Form}
 use Rattle.kif_tree.specs.declared.form.Form.TheVariants as form
 use Rattle.kif_tree.specs.declared.form.Form.TheOpen.{Form-F}
@@ -16,6 +16,7 @@ use Rattle.kif_tree.specs.FormLaws.{induction}
 use Rattle.kif_tree.specs.Subst.{Filling, bind, via, lookup}
 use Rattle.kif_tree.specs.Clauses.{Literals, bind_clause, clause_variables}
 use Rattle.kif_tree.proofs.TermLaws.{variables-Word, variables-Variable, variables-Row, variables-Numeral, variables-Quoted, variables-List}
+use Rattle.kif_tree.proofs.VariableLaws.{each_distinct}
 use Rattle.kif_tree.proofs.SubstLaws.{bind-Word, bind-Variable, bind-Row, bind-Numeral, bind-Quoted, bind-List, bind-via, Agree}
 use Rattle.calculus.specs.Tidy.{new_name, numbered, without_repeats, renaming, renamed, tidy}
 use Rattle.calculus.specs.Laws.{TidyIsIdempotent, TidiesAlike}
@@ -91,10 +92,6 @@ renames there back v h =
     let to : there v ≡ form.Variable (moved there v) = is_variable back v (there v) h in
     let from : back (moved there v) ≡ form.Variable v = sym (bind-Variable back (moved there v)) ∙ ap (bind back) (sym to) ∙ h in
     record { to = to; from = ap name_of from ∙ name_of-Variable v }
-
-each_distinct : (P : Bytes → Type 0) (xs : List Bytes) → Each P xs → Each P (distinct xs)
-each_distinct P [] h = tt
-each_distinct P (x ∷ xs) h = (h.0, each_filter P (λ y. not (bytes_eq x y)) (distinct xs) (each_distinct P xs h.1))
 
 flip : (a b : Bytes) → bytes_eq a b ≡ bytes_eq b a
 flip a b = same_from_decides (bytes_eq a b) (bytes_eq b a) (bytes_eq-Decides a b) (λ h. sym ((bytes_eq-Decides b a).0 h), λ e. (bytes_eq-Decides b a).1 (sym e))

@@ -48,10 +48,11 @@ meets : (kind : TokenKind) (bytes : List ℕ) (rest : Spelled) (g : Form) (ys : 
 meets kind bytes rest g ys e =
     let f = first g in
     let whole : (kind, bytes) ∷ rest ≡ (f.kind, f.bytes) ∷ (f.tail ++ ys) = e ∙ ap (λ t. t ++ ys) f.split in
+    let behind : rest ≡ f.tail ++ ys = cc in
     let pair : (kind, bytes) ≡ (f.kind, f.bytes) = cc in
     let k : f.kind ≡ kind = sym (ap (λ (p : TokenKind × List ℕ). p.0) pair) in
     let b : f.bytes ≡ bytes = sym (ap (λ (p : TokenKind × List ℕ). p.1) pair) in
-    record { tail = f.tail; means = subst (λ i. Means i bytes f.tail g) k (subst (λ i. Means f.kind i f.tail g) b f.means); same = cc }
+    record { tail = f.tail; means = subst (λ i. Means i bytes f.tail g) k (subst (λ i. Means f.kind i f.tail g) b f.means); same = behind }
 
 abbrev P : Form → Type 0
 P f = (g : Form) (xs ys : Spelled) → spelling f ++ xs ≡ spelling g ++ ys → (f ≡ g) × (xs ≡ ys)
@@ -73,8 +74,8 @@ one_spelling = induction P (record {
   row = λ t g xs ys e. let m = meets Row (64 ∷ t) xs g ys (ap (λ l. l ++ xs) (sym (spelling_row t)) ∙ e) in let b = m.means.1 in let v : t ≡ m.means.0 = cc in (ap form.Row v ∙ sym m.means.2, m.same ∙ ap (λ l. l ++ ys) m.means.3);
   quoted = λ t g xs ys e. let m = meets Quoted (quoted t) xs g ys (ap (λ l. l ++ xs) (sym (spelling_quoted t)) ∙ e) in let b = m.means.1 in let v = inside_unique t m.means.0 [] [] (cc) in (ap form.Quoted v.0 ∙ sym m.means.2, m.same ∙ ap (λ l. l ++ ys) m.means.3);
   list = λ parts each g xs ys e.
-    let start : ((Left, 40 ∷ []) ∷ flat_map spelling parts) ++ (Right, 41 ∷ []) ∷ xs ≡ spelling g ++ ys = sym (append_assoc ((Left, 40 ∷ []) ∷ flat_map spelling parts) ((Right, 41 ∷ []) ∷ []) xs) ∙ ap (λ l. l ++ xs) (sym (spelling_list parts)) ∙ e in
-    let m = meets Left (40 ∷ []) (flat_map spelling parts ++ (Right, 41 ∷ []) ∷ xs) g ys start in
-    let r = parts_same parts m.means.0 xs ys each (m.same ∙ ap (λ l. l ++ ys) m.means.2 ∙ append_assoc (flat_map spelling m.means.0) ((Right, 41 ∷ []) ∷ []) ys) in
-    (ap form.List r.0 ∙ sym m.means.1, r.1);
+      let start : ((Left, 40 ∷ []) ∷ flat_map spelling parts) ++ (Right, 41 ∷ []) ∷ xs ≡ spelling g ++ ys = sym (append_assoc ((Left, 40 ∷ []) ∷ flat_map spelling parts) ((Right, 41 ∷ []) ∷ []) xs) ∙ ap (λ l. l ++ xs) (sym (spelling_list parts)) ∙ e in
+      let m = meets Left (40 ∷ []) (flat_map spelling parts ++ (Right, 41 ∷ []) ∷ xs) g ys start in
+      let r = parts_same parts m.means.0 xs ys each (m.same ∙ ap (λ l. l ++ ys) m.means.2 ∙ append_assoc (flat_map spelling m.means.0) ((Right, 41 ∷ []) ∷ []) ys) in
+      (ap form.List r.0 ∙ sym m.means.1, r.1);
 })

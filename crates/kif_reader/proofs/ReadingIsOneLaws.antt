@@ -4,7 +4,7 @@ use Rattle.std.proofs.lemmas.List.{map-append}
 use Rattle.kif_tree.specs.declared.place.Located.{Located}
 use Rattle.kif_reader.specs.Cut.{joined}
 use Rattle.kif_reader.specs.Reading.{mark_len}
-use Rattle.kif_reader.specs.Spelling.{Lexed, bare, BeginsAt, SpellsForm, SpellsForms, Spells, tokens_of, spelling}
+use Rattle.kif_reader.specs.Spelling.{Lexed, bare, BeginsAt, SpellsForm, SpellsForms, SpellsAll, Spells, Reads, tokens_of, spelling}
 use Rattle.kif_reader.proofs.CutLaws.{cut_unique}
 use Rattle.kif_reader.proofs.OneSpellingLaws.{one_spelling}
 
@@ -50,10 +50,17 @@ forms_same c n (f ∷ fs) (g ∷ gs) ts is other =
     let rest = forms_same c (n + 1) fs gs other.1 (subst (SpellsForms c (n + 1) fs) one.1 is.4) other.4 in
     (λ i. one.0 i ∷ rest i)
 
-pub spells_unique : (c : ℕ) (text : List ℕ) (fs gs : List Located) → Spells c text fs → Spells c text gs → fs ≡ gs
-spells_unique c text fs gs is other =
+-- a whole text has one list of tokens
+pub tokens_unique : (text : List ℕ) (ts us : List Lexed) (b d : List ℕ) → Reads text ts b [] → Reads text us d [] → ts ≡ us
+tokens_unique text ts us b d is other =
     let mark = take (mark_len text) text in
-    let bytes = sym (append-nil (joined is.reads.pieces)) ∙ sym is.reads.cuts.whole ∙ other.reads.cuts.whole ∙ append-nil (joined other.reads.pieces) in
-    let pieces = cut_unique is.reads.pieces other.reads.pieces is.reads.cuts.stand other.reads.cuts.stand bytes in
-    let tokens = is.reads.is ∙ ap (tokens_of mark) pieces ∙ sym other.reads.is in
-    forms_same c 1 fs gs other.tokens (subst (SpellsForms c 1 fs) tokens is.spelled) other.spelled
+    let bytes = sym (append-nil (joined is.pieces)) ∙ sym is.cuts.whole ∙ other.cuts.whole ∙ append-nil (joined other.pieces) in
+    is.is ∙ ap (tokens_of mark) (cut_unique is.pieces other.pieces is.cuts.stand other.cuts.stand bytes) ∙ sym other.is
+
+pub spells_all_unique : (c : ℕ) (text : List ℕ) (fs gs : List Located) (ts us : List Lexed) → SpellsAll c text fs ts → SpellsAll c text gs us → (fs ≡ gs) × (ts ≡ us)
+spells_all_unique c text fs gs ts us is other =
+    let tokens = tokens_unique text ts us is.before other.before is.reads other.reads in
+    (forms_same c 1 fs gs us (subst (SpellsForms c 1 fs) tokens is.spelled) other.spelled, tokens)
+
+pub spells_unique : (c : ℕ) (text : List ℕ) (fs gs : List Located) → Spells c text fs → Spells c text gs → fs ≡ gs
+spells_unique c text fs gs is other = (spells_all_unique c text fs gs is.tokens other.tokens is.spelled other.spelled).0

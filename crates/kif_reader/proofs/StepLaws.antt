@@ -23,6 +23,7 @@ use Rattle.kif_reader.specs.declared.kinds.TokenKind.{TokenKind}
 use Rattle.kif_reader.specs.declared.kinds.TokenKind.TheVariants.{Left, Right, Word, Variable, Row, Numeral, Quoted}
 use Rattle.kif_reader.proofs.ReadLaws.{reads_idle, reads_token, level_more}
 use Rattle.kif_reader.proofs.SpellingLaws.{spelling_list}
+use Rattle.kif_reader.proofs.LevelLaws.{unclosed}
 use Rattle.kif_reader.proofs.HeldLaws.{Held, Part, opens_last, opens_push, begins_more, rebuild}
 
 pub held_start : (constituent : ℕ) (text : List ℕ) (p : Progress) → Starts text p → Held constituent text p [] []
@@ -41,7 +42,7 @@ held_start constituent text p starts = record {
 lexed : Token → List ℕ → Lexed
 lexed token before = record { kind = token.kind; bytes = token.text.now; before = before }
 
-reads_took : (text : List ℕ) (tokens : List Lexed) (token : Token) (old new : Progress) (took : Took token old new) → Reads text tokens old.before old.rest → Reads text (tokens ++ record { kind = token.kind; bytes = token.text.now; before = old.before ++ took.skipped } ∷ []) new.before new.rest
+pub reads_took : (text : List ℕ) (tokens : List Lexed) (token : Token) (old new : Progress) (took : Took token old new) → Reads text tokens old.before old.rest → Reads text (tokens ++ record { kind = token.kind; bytes = token.text.now; before = old.before ++ took.skipped } ∷ []) new.before new.rest
 reads_took text tokens token old new took r =
     let idle = reads_idle text tokens old.before took.skipped (token.text.now ++ new.rest) (subst (Reads text tokens old.before) took.left r) took.idle in
     let more = reads_token text tokens (old.before ++ took.skipped) new.rest token.kind token.text.now idle took.is in
@@ -58,9 +59,8 @@ record Stepped (constituent : ℕ) (text before rest : List ℕ) (forms : List L
   more : length forms ≤ count + 1
 
 module _ (constituent : ℕ) (text before rest : List ℕ) (forms new_forms : List Located) (lists new_lists : List Open) (closed opened : List Lexed) (at_line at_column : ℕ) (x : Lexed)
-  (reads : Reads text ((closed ++ opened) ++ x ∷ []) before rest) (nests : level 0 (closed ++ opened) ≡ Some (length lists)) (whole : SpellsForms constituent 1 forms closed) (open_lists : SpellsOpens lists opened)
-  (few : length lists ≤ 200) (place : IsPlace at_line at_column x.before) where
-
+    (reads : Reads text ((closed ++ opened) ++ x ∷ []) before rest) (nests : level 0 (closed ++ opened) ≡ Some (length lists)) (whole : SpellsForms constituent 1 forms closed) (open_lists : SpellsOpens lists opened)
+    (few : length lists ≤ 200) (place : IsPlace at_line at_column x.before) where
   leaf_step : level_behind x.kind (length lists) ≡ Some (length lists) → FollowsLeaf constituent x.kind x.bytes at_line at_column forms new_forms lists new_lists → Stepped constituent text before rest new_forms new_lists (length forms)
   leaf_step keeps f =
       let built = rebuild constituent f.part at_line at_column forms new_forms lists new_lists closed opened (x ∷ []) whole open_lists (record { spelled = sym f.spelled; place = place }) f.adds in
@@ -101,7 +101,7 @@ module _ (constituent : ℕ) (text before rest : List ℕ) (forms new_forms : Li
       } in
       let built = rebuild constituent (form.List f.last.parts) f.last.line f.last.column forms new_forms f.front new_lists closed last.before (last.mine ++ x ∷ []) whole last.all part f.adds in
       let same : built.closed ++ built.opened ≡ (closed ++ opened) ++ x ∷ [] =
-        built.same ∙ append_assoc closed last.before (last.mine ++ x ∷ []) ∙ ap (λ t. closed ++ t) (sym (append_assoc last.before last.mine (x ∷ [])) ∙ ap (λ t. t ++ x ∷ []) (sym last.split)) ∙ sym (append_assoc closed opened (x ∷ [])) in
+      built.same ∙ append_assoc closed last.before (last.mine ++ x ∷ []) ∙ ap (λ t. closed ++ t) (sym (append_assoc last.before last.mine (x ∷ [])) ∙ ap (λ t. t ++ x ∷ []) (sym last.split)) ∙ sym (append_assoc closed opened (x ∷ [])) in
       let some : eqb (length f.front + 1) 0 ≡ false = grind (arith, nat_tests) in
       let one_less : length f.front + 1 - 1 ≡ length new_lists = omega (arith, built.deep) in
       record {
@@ -117,8 +117,8 @@ module _ (constituent : ℕ) (text before rest : List ℕ) (forms new_forms : Li
       }
 
 steps : (constituent : ℕ) (text before rest : List ℕ) (forms new_forms : List Located) (lists new_lists : List Open) (closed opened : List Lexed) (at_line at_column : ℕ) (kind : TokenKind) (bytes here : List ℕ) →
-  Reads text ((closed ++ opened) ++ record { kind = kind; bytes = bytes; before = here } ∷ []) before rest → level 0 (closed ++ opened) ≡ Some (length lists) → SpellsForms constituent 1 forms closed → SpellsOpens lists opened →
-  length lists ≤ 200 → IsPlace at_line at_column here → IsToken kind bytes rest → Follows constituent kind bytes at_line at_column forms new_forms lists new_lists → Stepped constituent text before rest new_forms new_lists (length forms)
+    Reads text ((closed ++ opened) ++ record { kind = kind; bytes = bytes; before = here } ∷ []) before rest → level 0 (closed ++ opened) ≡ Some (length lists) → SpellsForms constituent 1 forms closed → SpellsOpens lists opened →
+    length lists ≤ 200 → IsPlace at_line at_column here → IsToken kind bytes rest → Follows constituent kind bytes at_line at_column forms new_forms lists new_lists → Stepped constituent text before rest new_forms new_lists (length forms)
 steps constituent text before rest forms new_forms lists new_lists closed opened at_line at_column Left bytes here r n w o few place is f = left_step constituent text before rest forms new_forms lists new_lists closed opened at_line at_column (record { kind = Left; bytes = bytes; before = here }) r n w o few place refl is f
 steps constituent text before rest forms new_forms lists new_lists closed opened at_line at_column Right bytes here r n w o few place is f = right_step constituent text before rest forms new_forms lists new_lists closed opened at_line at_column (record { kind = Right; bytes = bytes; before = here }) r n w o few place refl is f
 steps constituent text before rest forms new_forms lists new_lists closed opened at_line at_column Word bytes here r n w o few place is f = leaf_step constituent text before rest forms new_forms lists new_lists closed opened at_line at_column (record { kind = Word; bytes = bytes; before = here }) r n w o few place refl f
@@ -128,7 +128,7 @@ steps constituent text before rest forms new_forms lists new_lists closed opened
 steps constituent text before rest forms new_forms lists new_lists closed opened at_line at_column Quoted bytes here r n w o few place is f = leaf_step constituent text before rest forms new_forms lists new_lists closed opened at_line at_column (record { kind = Quoted; bytes = bytes; before = here }) r n w o few place refl f
 
 -- a token has bytes
-some_token : (kind : TokenKind) (bytes rest : List ℕ) → IsToken kind bytes rest → 0 < length bytes
+pub some_token : (kind : TokenKind) (bytes rest : List ℕ) → IsToken kind bytes rest → 0 < length bytes
 some_token Left bytes rest is = omega (arith, ap length is)
 some_token Right bytes rest is = omega (arith, ap length is)
 some_token Quoted bytes rest is = omega (arith, ap length is.2)
@@ -143,7 +143,7 @@ took_less token old new took = omega (arith, some_token token.kind token.text.no
 pub held_step : (constituent : ℕ) (text : List ℕ) (token : Token) (old new : Progress) (forms new_forms : List Located) (lists new_lists : List Open) → Held constituent text old forms lists → Took token old new → Follows constituent token.kind token.text.now token.line token.column forms new_forms lists new_lists → Held constituent text new new_forms new_lists
 held_step constituent text token old new forms new_forms lists new_lists held took follows =
     let step = steps constituent text new.before new.rest forms new_forms lists new_lists held.closed held.opened token.line token.column token.kind token.text.now (old.before ++ took.skipped)
-      (reads_took text (held.closed ++ held.opened) token old new took held.reads) held.nests held.whole held.open_lists held.few took.place took.is follows in
+    (reads_took text (held.closed ++ held.opened) token old new took held.reads) held.nests held.whole held.open_lists held.few took.place took.is follows in
     record {
       going = took.goes_on;
       closed = step.closed;
@@ -157,35 +157,38 @@ held_step constituent text token old new forms new_forms lists new_lists held to
     }
 
 -- the ends
-reads_finished : (text : List ℕ) (tokens : List Lexed) (old new : Progress) → Finished old new → Reads text tokens old.before old.rest → Reads text tokens (old.before ++ old.rest) []
+pub reads_finished : (text : List ℕ) (tokens : List Lexed) (old new : Progress) → Finished old new → Reads text tokens old.before old.rest → Reads text tokens (old.before ++ old.rest) []
 reads_finished text tokens old new ends r = reads_idle text tokens old.before old.rest [] (subst (Reads text tokens old.before) (sym (append-nil old.rest)) r) ends.idle
 
-pub held_spells : (constituent : ℕ) (text : List ℕ) (old new : Progress) (forms : List Located) → Held constituent text old forms [] → Finished old new → Spells constituent text forms
+pub held_spells : (constituent : ℕ) (text : List ℕ) (old new : Progress) (forms : List Located) → Held constituent text old forms [] → Finished old new → (tokens : List Lexed) × SpellsAll constituent text forms tokens
 held_spells constituent text old new forms held ends =
-    let all : held.closed ++ held.opened ≡ held.closed = ap (λ t. held.closed ++ t) held.open_lists ∙ append-nil held.closed in
-    record {
-      tokens = held.closed;
-      before = old.before ++ old.rest;
-      reads = subst (λ t. Reads text t (old.before ++ old.rest) []) all (reads_finished text (held.closed ++ held.opened) old new ends held.reads);
-      nests = ap (level 0) (sym all) ∙ held.nests;
-      spelled = held.whole;
-    }
+    let all : held.closed ++ held.opened ≡ held.closed = ap (λ t. held.closed ++ t) held.open_lists ∙ append-nil held.closed in (
+      held.closed,
+      record {
+        before = old.before ++ old.rest;
+        reads = subst (λ t. Reads text t (old.before ++ old.rest) []) all (reads_finished text (held.closed ++ held.opened) old new ends held.reads);
+        nests = ap (level 0) (sym all) ∙ held.nests;
+        spelled = held.whole;
+      },
+    )
 
-pub held_open : (constituent : ℕ) (text : List ℕ) (old new : Progress) (forms : List Located) (list : Open) (lists : List Open) → Held constituent text old forms (list ∷ lists) → Finished old new → LeavesOpen constituent list.line list.column text
-held_open constituent text old new forms list lists held ends = record {
-  closed = held.closed;
-  opened = held.opened;
-  before = old.before ++ old.rest;
-  reads = reads_finished text (held.closed ++ held.opened) old new ends held.reads;
-  forms = forms;
-  outermost = list;
-  inner = lists;
-  nests = held.nests ∙ ap (λ k. Some k) (omega arith);
-  whole = held.whole;
-  open_lists = held.open_lists;
-  line = refl;
-  column = refl;
-}
+pub held_open : (constituent : ℕ) (text : List ℕ) (old new : Progress) (forms : List Located) (list : Open) (lists : List Open) → Held constituent text old forms (list ∷ lists) → Finished old new → LeavesOpen list.line list.column text
+held_open constituent text old new forms list lists held ends =
+    let open_list = unclosed constituent forms list lists held.closed held.opened (length (list ∷ lists)) held.whole held.open_lists held.nests in
+    let long : length (list ∷ lists) ≡ 1 + length lists = omega arith in
+    record {
+      closed = held.closed;
+      outermost = open_list.outermost;
+      inner = open_list.inner;
+      before = old.before ++ old.rest;
+      depth = length lists;
+      reads = subst (λ t. Reads text (held.closed ++ t) (old.before ++ old.rest) []) open_list.split (reads_finished text (held.closed ++ held.opened) old new ends held.reads);
+      balanced = open_list.balanced;
+      opens = open_list.opens;
+      unclosed = open_list.unclosed;
+      nests = ap (λ t. level 0 (held.closed ++ t)) (sym open_list.split) ∙ held.nests ∙ ap (λ k. Some k) long;
+      place = open_list.place;
+    }
 
 lex_fault : (constituent : ℕ) (text : List ℕ) (error : LexError) → LexFault (fault_of error) (spot_of error).line (spot_of error).column text → FirstFault constituent text (unread_of error)
 lex_fault constituent text (errors.BadByte spot) is = is
@@ -216,7 +219,7 @@ nest_fault constituent text token old new forms lists kind depth byte spot held 
   before = old.before ++ took.skipped;
   rest = new.rest;
   reads = subst (λ b. Reads text (held.closed ++ held.opened) (old.before ++ took.skipped) (b ++ new.rest)) bytes
-    (reads_idle text (held.closed ++ held.opened) old.before took.skipped (token.text.now ++ new.rest) (subst (Reads text (held.closed ++ held.opened) old.before) took.left held.reads) took.idle);
+      (reads_idle text (held.closed ++ held.opened) old.before took.skipped (token.text.now ++ new.rest) (subst (Reads text (held.closed ++ held.opened) old.before) took.left held.reads) took.idle);
   nests = held.nests ∙ ap (λ k. Some k) refuses.level_is;
   place = record { line = refuses.line ∙ took.place.line; column = refuses.column ∙ took.place.column };
 }

@@ -1,8 +1,8 @@
 ghost use Rattle.std.specs.Prelude.{◌≡◌};
 
 use crate::bytes::Spot;
-use sigma_base::NoMemory;
 use kif_tree::Forms;
+use sigma_base::NoMemory;
 
 /// What a token is.
 #[derive(Clone, Copy, Debug, PartialEq, Eq)]

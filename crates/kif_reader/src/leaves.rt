@@ -3,8 +3,8 @@ ghost use Rattle.kif_reader.specs.Cut.{IsInside, IsToken, escaped};
 ghost use Rattle.kif_reader.specs.Spelling.{spelling};
 
 use crate::kinds::{Token, TokenKind};
-use sigma_base::NoMemory;
 use kif_tree::{Form, Text};
+use sigma_base::NoMemory;
 use std::alloc::Global;
 
 /// The text that a string holds, whose bytes between the quotes are these.

@@ -1,15 +1,17 @@
-ghost use Rattle.std.specs.Prelude.{◌≡◌, ◌≤◌, ◌∷◌, [], ◌++◌, ◌+◌, ◌<◌, ◌^◌, ℕ, List, IfOk, OnOk, length, MatchResult, vec_len};
+ghost use Rattle.std.specs.Prelude.{◌≡◌, ◌≤◌, ◌∷◌, [], ◌++◌, ◌+◌, ◌<◌, ◌^◌, ◌⊎◌, ◌≢◌, true, ℕ, List, All, Some, IfOk, IfErr, IsErrAnd, OnOk, length, slice_get, MatchResult, vec_len};
+ghost use Rattle.kif_tree.specs.Shape.{is_shaped};
+ghost use Rattle.kif_reader.specs.Bytes.{IsPlace};
 ghost use Rattle.kif_reader.specs.Cut.{IsToken};
 ghost use Rattle.kif_reader.specs.Reading.{unread_of};
 ghost use Rattle.kif_reader.specs.Steps.{Adds, Follows, Refuses};
-ghost use Rattle.kif_reader.specs.Spelling.{Lexed, SpellsAll, Spells, FirstFault};
+ghost use Rattle.kif_reader.specs.Spelling.{Lexed, Reads, SpellsAll, Spells, FirstFault};
 
 use crate::bytes::Spot;
 use crate::kinds::{LexError, Open, ReadError, Token, TokenKind};
 use crate::leaves::leaf;
 use crate::tokens::Tokens;
+use kif_tree::{Form, Located, Place, first_fault_in};
 use sigma_base::{Listed, NoMemory};
-use kif_tree::{Form, Located, Place};
 use std::alloc::{AllocError, Global};
 
 /// Puts a form behind the parts of the innermost open list, or behind the forms.
@@ -43,23 +45,19 @@ fn add(
                 mut parts,
             } = list;
             parts.push(form)?;
-            lists.push(Open {
-                line,
-                column,
-                parts,
-            })
-            .map_err(AllocError::from)?;
+            lists
+                .push(Open {
+                    line,
+                    column,
+                    parts,
+                })
+                .map_err(AllocError::from)?;
         }
     }
     Ok(())
 }
 
-fn open_list(
-    alloc: Global,
-    lists: &mut Vec<Open>,
-    line: u32,
-    column: u32,
-) -> Result<(), NoMemory>
+fn open_list(alloc: Global, lists: &mut Vec<Open>, line: u32, column: u32) -> Result<(), NoMemory>
     ensures { OnOk result (lists.new.items ≡ lists.old.items ++ record { line = line; column = column; parts = [] } ∷ []) }
 {
     lists
@@ -150,4 +148,45 @@ fn read_trees(alloc: Global, text: &[u8], constituent: u32) -> Result<Vec<Locate
         return Err(ReadError::OpenList(spot));
     }
     Ok(forms)
+}
+
+/// The place of the token of this number, from 0. The tokens are taken anew, so that a text without faults keeps no places.
+fn token_spot(text: &[u8], number: usize) -> Spot
+    requires short { length text.now < 2 ^ 31 }
+    requires within { (tokens : List Lexed) × (before : List ℕ) × Reads text.now tokens before [] × (number < length tokens) }
+    ensures { (tokens : List Lexed) (before : List ℕ) → Reads text.now tokens before [] → (token : Lexed) × (slice_get tokens number ≡ Some token) × IsPlace result.line result.column token.before }
+{
+    let mut tokens = Tokens::new(text);
+    let mut left = number;
+    while let Some(step) = tokens.next() {
+        match step {
+            Ok(token) => {
+                if left == 0 {
+                    return Spot {
+                        line: token.line,
+                        column: token.column,
+                    };
+                }
+                left -= 1;
+            }
+            Err(_) => unreachable!(),
+        }
+    }
+    unreachable!()
+}
+
+/// The forms of a text of `constituent`, with their places, or the first fault of the text.
+pub fn read_forms(alloc: Global, text: &[u8], constituent: u32) -> Result<Vec<Located>, ReadError>
+    requires { length text.now < 2 ^ 31 }
+    ensures forms { IfOk result (λ forms. Spells constituent text.now forms.items) }
+    ensures shaped { IfOk result (λ forms. All (λ located. is_shaped located.form ≡ true) forms.items) }
+    ensures fault { IfErr result (λ error. FirstFault constituent text.now error) }
+    ensures spelled { (forms : List Located) → Spells constituent text.now forms → MatchResult result (λ read. read.items ≡ forms) (λ error. error ≡ ReadError.NoMemory) }
+    ensures unspelled { (error : ReadError) → error ≢ ReadError.NoMemory → FirstFault constituent text.now error → IsErrAnd result (λ found. (found ≡ error) ⊎ (found ≡ ReadError.NoMemory)) }
+{
+    let forms = read_trees(alloc, text, constituent)?;
+    match first_fault_in(&forms) {
+        None => Ok(forms),
+        Some(number) => Err(ReadError::LogicShape(token_spot(text, number))),
+    }
 }

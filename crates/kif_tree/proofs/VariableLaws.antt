@@ -4,6 +4,7 @@ use Rattle.std.specs.List.{list_any}
 use Rattle.std.specs.Str.{bytes_eq}
 use Rattle.std.proofs.lemmas.List.{map_more, take_more}
 use Rattle.std.proofs.lemmas.Slice.Eq.{bytes_eq-Decides}
+use Rattle.sigma_base.specs.Lists.{Each, each_filter}
 use Rattle.kif_tree.specs.declared.clause.Literal.{Literal}
 use Rattle.kif_tree.specs.Terms.{Bytes, variables, joined, distinct, joined_once}
 use Rattle.kif_tree.specs.Clauses.{Literals, clause_variables}
@@ -143,3 +144,9 @@ names_more found xs i x below is =
     ∙ joined_once-append found (clause_variables (take i xs)) (variables (get_or xs i x).atom ++ [])
     ∙ ap (joined_once (joined_once found (clause_variables (take i xs)))) (right_unit (variables (get_or xs i x).atom))
     ∙ ap (λ (l : Literal). joined_once (joined_once found (clause_variables (take i xs))) (variables l.atom)) (sym is)
+
+-- ---- what holds of each name
+
+pub each_distinct : (P : Bytes → Type 0) (names : List Bytes) → Each P names → Each P (distinct names)
+each_distinct P [] h = tt
+each_distinct P (name ∷ names) h = (h.0, each_filter P (λ other. not (bytes_eq name other)) (distinct names) (each_distinct P names h.1))

@@ -3,6 +3,7 @@ use crate::*;
 use sigma_base::{Listed, NoMemory};
 use std::alloc::Global;
 use std::cmp::Ordering;
+use std::mem::replace;
 use std::test::Fail;
 
 // ---- fixtures: `?X` spells a variable, `@R` a row variable, `"s` a string, a digit begins a numeral
@@ -430,6 +431,115 @@ fn tells_literals_apart(rt: HostRuntime) -> Result<(), Fail> {
     let table = [(true, "a", true), (false, "a", false), (true, "b", false)];
     for (positive, argument, same) in &table {
         assert_eq!(rt; same_literal(rt.alloc(), *positive, argument)?, *same);
+    }
+    Ok(())
+}
+
+// ---- shape: texts with one byte for each token, so that a token's number is its byte's
+
+fn token(alloc: Global, byte: u8) -> Result<Form, NoMemory> {
+    let spelled = match byte {
+        b'~' => "not",
+        b'&' => "and",
+        b'|' => "or",
+        b'>' => "=>",
+        b'=' => "<=>",
+        b'A' => "forall",
+        b'E' => "exists",
+        b'!' => "!answer",
+        b'?' => "?X",
+        b'@' => "@R",
+        b'1' => "1",
+        b'"' => "\"s",
+        _ => "p",
+    };
+    leaf(alloc, spelled)
+}
+
+fn spelled_by(alloc: Global, tokens: &[u8]) -> Result<Forms, NoMemory> {
+    let mut outer: Vec<Forms> = Vec::new(alloc);
+    let mut parts = Listed::new(alloc);
+    for byte in tokens {
+        match *byte {
+            b'(' => outer.push(replace(&mut parts, Listed::new(alloc)))?,
+            b')' => {
+                let around = outer.pop().unwrap_or(Listed::new(alloc));
+                let list = Form::List(replace(&mut parts, around));
+                parts.push(list)?;
+            }
+            other => parts.push(token(alloc, other)?)?,
+        }
+    }
+    Ok(parts)
+}
+
+fn located(alloc: Global, forms: Forms) -> Result<Listed<Located>, NoMemory> {
+    let mut found = Listed::new(alloc);
+    for form in forms.into_items() {
+        let place = Place {
+            constituent: 1,
+            form: 1,
+            line: 1,
+            column: 1,
+        };
+        found.push(Located { form, place })?;
+    }
+    Ok(found)
+}
+
+// the first fault, and whether each form is shaped
+fn shape(alloc: Global, tokens: &str) -> Result<(Option<usize>, bool), NoMemory> {
+    let forms = located(alloc, spelled_by(alloc, tokens.as_bytes())?)?;
+    let mut shaped = true;
+    for located in forms.items() {
+        if !is_shaped(&located.form) {
+            shaped = false;
+        }
+    }
+    Ok((first_fault_in(forms.items()), shaped))
+}
+
+#[test]
+fn finds_the_first_fault_of_shape(rt: HostRuntime) -> Result<(), Fail> {
+    let table = [
+        ("", None),
+        ("p", Some(0)),
+        ("()", Some(0)),
+        ("(p)", None),
+        ("(?p)", None),
+        ("(\"p)", Some(0)),
+        ("(1p)", Some(0)),
+        ("(@p)", Some(0)),
+        ("((p)p)", Some(0)),
+        ("(p())", Some(2)),
+        ("(p(~))", Some(2)),
+        ("(p~&)", None),
+        ("(~)", Some(0)),
+        ("(~pp)", Some(0)),
+        ("(~(~(p)()))", Some(2)),
+        ("(&)", Some(0)),
+        ("(|(p))", None),
+        ("(>(p))", Some(0)),
+        ("(=(p)(p))", None),
+        ("(A(?@)(p))", None),
+        ("(E(@)(p))", None),
+        ("(A()(p))", Some(2)),
+        ("(A(p)(p))", Some(0)),
+        ("(E()(p)(p))", Some(0)),
+        ("(p(A?(p)))", Some(2)),
+        ("(p)(A(??)(p(E(?)(&))))()", Some(16)),
+        ("(p)(~(p))p", Some(9)),
+    ];
+    for (tokens, fault) in &table {
+        assert_eq!(rt; shape(rt.alloc(), tokens)?, (*fault, fault.is_none()));
+    }
+    Ok(())
+}
+
+#[test]
+fn forms_with_the_answer_word_are_not_shaped(rt: HostRuntime) -> Result<(), Fail> {
+    for tokens in ["(!p)", "(~(p!))", "(p)(p(p!))"] {
+        assert_eq!(rt; shape(rt.alloc(), tokens)?, (None, false));
     }
     Ok(())
 }

@@ -32,7 +32,8 @@ use Rattle.sigma_app.specs.Words.{Asked, asked}
 use Rattle.sigma_app.specs.Proof.{unit_clause, asked_clause, query_clause, values, answer_clause, lines_of}
 use Rattle.sigma_app.specs.Tool.{Is, OnBody, OnFile, IsRead, Shows, ShowsAnswer, not_built, usage, Tool}
 use Rattle.sigma_app.specs.Evidence.{input_of_fact, input_of_query, search_inputs, clauses_of, line_of, ShowSteps, Holds, one_part, IsProof, ShowsProof}
-use Rattle.sigma_app.proofs.ProofLaws.{renamed_values, ground_rowless, each_distinct, ground_values, ground_terms, clean-answer, answer-answers, bind-answer, query_clause-is, old_names, resolution, resolution-concludes, filled_ground, map-variables}
+use Rattle.kif_tree.proofs.VariableLaws.{each_distinct}
+use Rattle.sigma_app.proofs.ProofLaws.{renamed_values, ground_rowless, ground_values, ground_terms, clean-answer, answer-answers, bind-answer, query_clause-is, old_names, resolution, resolution-concludes, filled_ground, map-variables}
 
 -- ---- items by their numbers
 

@@ -1,15 +1,15 @@
 -- Why the tool gives one status and one text for the same words and files.
-use Rattle.std.proofs.Common.{◌≡◌, ℕ, ◌<◌, List, [], ◌∷◌, ◌++◌, length, Bool, true, false, not, Option, Some, None, nat_le, codes, inl, inr, sym, ap, ap₂, ◌∙◌, subst, arith}
+use Rattle.std.proofs.Common.{◌≡◌, ℕ, ◌<◌, List, [], ◌∷◌, ◌++◌, length, Bool, true, false, Option, Some, None, nat_le, codes, inl, inr, sym, ap, ap₂, ◌∙◌, subst, arith}
 use Rattle.std.specs.Prelude.{slice_get, MatchOption, MatchBool}
-use Rattle.std.specs.Str.{bytes_eq}
 use Rattle.std.proofs.lemmas.Bool.Decides.{nat_tests}
-use Rattle.sigma_base.specs.Lists.{Each, each_filter, each_map, map_each}
+use Rattle.sigma_base.specs.Lists.{Each, each_map, map_each}
 use Rattle.kif_tree.specs.declared.form.Form.{Form}
 use Rattle.kif_tree.specs.declared.place.Located.{Located}
 use Rattle.kif_tree.specs.declared.subst.Pair.{Pair}
 use Rattle.kif_tree.specs.Terms.{Bytes, variables, distinct}
 use Rattle.kif_tree.specs.Subst.{lookup}
 use Rattle.kif_tree.proofs.SubstLaws.{Agree, agree_back}
+use Rattle.kif_tree.proofs.VariableLaws.{each_distinct}
 use Rattle.sig_io.specs.Told.{body_of}
 use Rattle.kif_reader.specs.Plain.{ReadsFacts, located, forms_of}
 use Rattle.kif_reader.proofs.PlainLaws.{facts_are_one, goal_is_one}
@@ -26,10 +26,6 @@ is_one : (wanted : ℕ) (shown : Bytes) (status other : ℕ) (text page : Bytes)
 is_one wanted shown status other text page a b = (a.done ∙ sym b.done, a.page_is ∙ sym b.page_is)
 
 -- ---- what the variables become
-
-each_distinct : (P : Bytes → Type 0) (names : List Bytes) → Each P names → Each P (distinct names)
-each_distinct P [] h = tt
-each_distinct P (name ∷ names) h = (h.0, each_filter P (λ other. not (bytes_eq name other)) (distinct names) (each_distinct P names h.1))
 
 agreed : (query fact : Form) (s t : List Pair) → Fits s query fact → Fits t query fact → Each (Agree (lookup s) (lookup t)) (distinct (variables query))
 agreed query fact s t a b =

@@ -3,7 +3,7 @@ use Rattle.std.proofs.Common.{◌≡◌, ℕ, ◌+◌, ◌≤◌, List, [], ◌�
 use Rattle.std.specs.List.{list_any}
 use Rattle.std.specs.Str.{bytes_eq}
 use Rattle.std.proofs.lemmas.Slice.Eq.{bytes_eq-Decides}
-use Rattle.sigma_base.specs.Lists.{Each, each_append, each_left, each_right, each_map, each_filter}
+use Rattle.sigma_base.specs.Lists.{Each, each_append, each_left, each_right, each_map}
 use Rattle.kif_tree.specs.declared.form.Form.{Form}
 use Rattle.kif_tree.specs.declared.form.Form.TheVariants as form
 use Rattle.kif_tree.specs.declared.subst.Pair.{Pair}
@@ -14,6 +14,7 @@ use Rattle.kif_tree.specs.Subst.{Filling, bind, via, lookup, apply}
 use Rattle.kif_tree.specs.Clauses.{Literals, clause_variables, is_word, heads_layer, is_headed, is_answer}
 use Rattle.kif_tree.proofs.TermLaws.{clean-Word, clean-Variable, clean-Row, clean-Numeral, clean-Quoted, clean-List, clean_all, variables-Word, variables-Variable, variables-Row, variables-Numeral, variables-Quoted, variables-List}
 use Rattle.kif_tree.proofs.SubstLaws.{bind-Word, bind-Variable, bind-Row, bind-Numeral, bind-Quoted, bind-List, bind-via, agree, Agree}
+use Rattle.kif_tree.proofs.VariableLaws.{each_distinct}
 use Rattle.sigma_app.specs.Plain.{IsPlainAtom}
 use Rattle.sigma_app.proofs.AtomLaws.{fact_ground, headed_plain, plain_no_answer}
 use Rattle.calculus.specs.declared.step.Step.{Step}
@@ -78,10 +79,6 @@ filled_ground g = induction (λ f. clean false (bind g f) ≡ true → Each (Giv
       subst (Each (GivesGround g)) (sym (variables-List parts))
       (filled_all g parts each (sym (clean-List false (map (bind g) parts)) ∙ ap (clean false) (sym (bind-List g parts)) ∙ h));
 })
-
-pub each_distinct : (P : Bytes → Type 0) (names : List Bytes) → Each P names → Each P (distinct names)
-each_distinct P [] h = tt
-each_distinct P (name ∷ names) h = (h.0, each_filter P (λ other. not (bytes_eq name other)) (distinct names) (each_distinct P names h.1))
 
 ground_map : (g : Filling) (names : List Bytes) → Each (GivesGround g) names → clean_all false (map g names) ≡ true
 ground_map g [] h = refl
