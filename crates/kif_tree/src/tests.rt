@@ -366,7 +366,7 @@ fn fills_what_no_pair_names(rt: HostRuntime) -> Result<(), Fail> {
 fn instance(alloc: Global, spelled: &[(bool, &[&str])]) -> Result<Text, NoMemory> {
     let clause = clause(alloc, spelled)?;
     let subst = subst(alloc, &[("X", "a"), ("X", "b")])?;
-    let instance = ground_instance(alloc, &clause, &subst)?;
+    let instance = ground_instance(alloc, &clause, subst.pairs.items())?;
     print_clause(alloc, &instance)
 }
 
