@@ -136,7 +136,8 @@ fn prints_a_form_of_all_kinds(rt: HostRuntime) -> Result<(), Fail> {
 
 fn printed_clause(alloc: Global, spelled: &[(bool, &[&str])]) -> Result<Text, NoMemory> {
     let clause = clause(alloc, spelled)?;
-    print_clause(alloc, &clause)
+    let copy = clause.copy(alloc)?;
+    print_clause(alloc, &copy)
 }
 
 #[test]
