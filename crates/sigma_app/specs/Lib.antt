@@ -1,3 +1,4 @@
+pub mod Commands
 pub mod Evidence
 pub mod Laws
 pub mod Matching

@@ -1,6 +1,7 @@
 //! The top calls: the command-line tool over any files and any sink.
 #![tactic(auto)]
 
+mod commands;
 mod laws;
 mod matching;
 mod page;
