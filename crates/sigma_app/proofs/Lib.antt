@@ -3,6 +3,8 @@ pub mod MatchLaws
 pub mod OutcomeLaws
 pub mod PlainLaws
 pub mod ProofLaws
+pub mod ParserLaws
+pub mod RequestLaws
 pub mod RunLaws
 pub mod ToolLaws
 pub mod WordLaws

@@ -4,6 +4,7 @@ pub mod Laws
 pub mod Matching
 pub mod Page
 pub mod Proof
+pub mod Requests
 pub mod Run
 pub mod Tool
 pub mod Words

@@ -1,0 +1,115 @@
+-- What the words of a command line ask for.
+use Rattle.std.proofs.Common.{◌≡◌, ◌∙◌, refl, sym, ap, ap₂, Bool, true, false, ◌&&◌, List, [], ◌∷◌, map, Option, Some, None, is_some}
+use Rattle.std.specs.List.{list_any}
+use Rattle.std.specs.Borrow.{Bor}
+use Rattle.clap.specs.Values.{reading_of, same_text}
+use Rattle.clap.specs.ValueTests.{accepts}
+use Rattle.clap.specs.Walk.{Held, Text, nothing_held, walk}
+use Rattle.clap.specs.Simple.{App, Shape, built, entered, is_simple, matches_of}
+use Rattle.clap.specs.Takes.{built_takes, entered_passes, level_passes, takes}
+use Rattle.clap.specs.declared.builder.value_parser.ValueParser.{ValueParser}
+use Rattle.clap.specs.declared.builder.value_parser.ValueParser.TheVariants as vp
+use Rattle.clap.proofs.OnLiterals.{clap_on_literals}
+use Rattle.clap.proofs.WalkLemmas.{first_value-rows, raw_values-rows, list_any-map}
+use Rattle.sigma_app.specs.Commands.{lent, modes, TakesModes, ask_app_by, app, IsAppOf}
+use Rattle.sigma_app.specs.declared.commands.CommandName.{CommandName}
+use Rattle.sigma_app.specs.declared.commands.CommandName.TheVariants as command
+use Rattle.sigma_app.proofs.ParserLaws.{rows_after_same, level_passes_same}
+
+pub ruleset rows_read = (first_value-rows, raw_values-rows)
+
+-- ---- the words of the modes behind any references
+
+-- the parser with its names behind other references
+abbrev lent_again : ValueParser → ValueParser
+lent_again vp.String = vp.String
+lent_again vp.NonEmptyString = vp.NonEmptyString
+lent_again vp.Bool = vp.Bool
+lent_again vp.Boolish = vp.Boolish
+lent_again vp.Falsey = vp.Falsey
+lent_again (vp.Signed low high) = vp.Signed low high
+lent_again (vp.Unsigned low high) = vp.Unsigned low high
+lent_again vp.Float = vp.Float
+lent_again vp.Char = vp.Char
+lent_again (vp.Names names) = vp.Names (lent (map (λ s. lent s.now) names.now))
+lent_again (vp.Values values) = vp.Values values
+
+reads : (p : ValueParser) → reading_of (lent_again p) ≡ reading_of p
+reads vp.String = refl
+reads vp.NonEmptyString = refl
+reads vp.Bool = refl
+reads vp.Boolish = refl
+reads vp.Falsey = refl
+reads (vp.Signed low high) = refl
+reads (vp.Unsigned low high) = refl
+reads vp.Float = refl
+reads vp.Char = refl
+reads (vp.Names names) = refl
+reads (vp.Values values) = refl
+
+passes : (ignores : Bool) (p : ValueParser) (text : Text) → accepts ignores (lent_again p) text ≡ accepts ignores p text
+passes ignores vp.String text = refl
+passes ignores vp.NonEmptyString text = refl
+passes ignores vp.Bool text = refl
+passes ignores vp.Boolish text = refl
+passes ignores vp.Falsey text = refl
+passes ignores (vp.Signed low high) text = refl
+passes ignores (vp.Unsigned low high) text = refl
+passes ignores vp.Float text = refl
+passes ignores vp.Char text = refl
+passes ignores (vp.Names names) text = sym (list_any-map (λ (s : Bor Text). same_text ignores s.now text) (λ (s : Bor Text). lent s.now) names.now)
+passes ignores (vp.Values values) text = refl
+
+lent_texts : (names : List (Bor Text)) → map (λ s. lent s.now) names ≡ map lent (map (λ s. s.now) names)
+lent_texts [] = refl
+lent_texts (s ∷ names) = ap (λ (rest : List (Bor Text)). lent s.now ∷ rest) (lent_texts names)
+
+modes_lent : (p : ValueParser) → TakesModes p → lent_again p ≡ modes
+modes_lent p (names, is, texts) = ap lent_again is ∙ ap (λ (xs : List (Bor Text)). vp.Names (lent xs)) (lent_texts names.now ∙ ap (map lent) texts)
+
+ask_matches : (p : ValueParser) → TakesModes p → (words : List Text) → matches_of (ask_app_by p) words ≡ matches_of (ask_app_by modes) words
+ask_matches p is words =
+    sym (rows_after_same lent_again reads passes (built (ask_app_by p)).top.rules [] words) ∙ ap (λ (q : ValueParser). matches_of (ask_app_by q) words) (modes_lent p is)
+
+-- ---- a command without subcommands
+
+leaf_takes : (s : Shape) (h : Held) (words : List Text) → built_takes (record { top = s; subs = [] }) h words ≡ level_passes s [] h words false
+leaf_takes s h words = go (walk s.rules [] h words).stopped
+  where
+    go : (stop : Option (Text × List Text))
+        → (entered_passes (record { top = s; subs = [] }) stop && level_passes s [] h words (is_some (entered (record { top = s; subs = [] }) stop))) ≡ level_passes s [] h words false
+    go None = refl
+    go (Some p) = refl
+
+ask_level : (p : ValueParser) (words : List Text) → takes (ask_app_by p) words ≡ level_passes (built (ask_app_by p)).top [] nothing_held words false
+unfolding clap_on_literals
+ask_level p words = leaf_takes (built (ask_app_by p)).top nothing_held words
+
+ask_takes : (p : ValueParser) → TakesModes p → (words : List Text) → takes (ask_app_by p) words ≡ takes (ask_app_by modes) words
+ask_takes p is words =
+    ask_level p words ∙ sym (level_passes_same lent_again reads passes (built (ask_app_by p)).top [] nothing_held words false)
+    ∙ sym (ask_level (lent_again p) words) ∙ ap (λ (q : ValueParser). takes (ask_app_by q) words) (modes_lent p is)
+
+-- ---- the command that the code builds
+
+pub app_matches : (name : CommandName) (a : App) (words : List Text) → IsAppOf name a → matches_of a words ≡ matches_of (app name) words
+app_matches command.Ask a words (p, is, e) = ap (λ (b : App). matches_of b words) e ∙ ask_matches p is words
+app_matches command.Check a words e = ap (λ (b : App). matches_of b words) e
+app_matches command.Clauses a words e = ap (λ (b : App). matches_of b words) e
+app_matches command.Export a words e = ap (λ (b : App). matches_of b words) e
+app_matches command.Drill a words e = ap (λ (b : App). matches_of b words) e
+
+pub app_takes : (name : CommandName) (a : App) (words : List Text) → IsAppOf name a → takes a words ≡ takes (app name) words
+app_takes command.Ask a words (p, is, e) = ap (λ (b : App). takes b words) e ∙ ask_takes p is words
+app_takes command.Check a words e = ap (λ (b : App). takes b words) e
+app_takes command.Clauses a words e = ap (λ (b : App). takes b words) e
+app_takes command.Export a words e = ap (λ (b : App). takes b words) e
+app_takes command.Drill a words e = ap (λ (b : App). takes b words) e
+
+pub app_simple : (name : CommandName) (a : App) → IsAppOf name a → is_simple a ≡ true
+unfolding clap_on_literals
+app_simple command.Ask a (p, is, e) = ap is_simple e
+app_simple command.Check a e = ap is_simple e
+app_simple command.Clauses a e = ap is_simple e
+app_simple command.Export a e = ap is_simple e
+app_simple command.Drill a e = ap is_simple e
