@@ -7,4 +7,5 @@ pub mod ParserLaws
 pub mod RequestLaws
 pub mod RunLaws
 pub mod ToolLaws
+pub mod ValueLaws
 pub mod WordLaws

@@ -1,19 +1,24 @@
 -- What the words of a command line ask for.
 use Rattle.std.proofs.Common.{◌≡◌, ◌∙◌, refl, sym, ap, ap₂, Bool, true, false, ◌&&◌, List, [], ◌∷◌, map, Option, Some, None, is_some}
+use Rattle.std.proofs.Common.{arith, codes}
+use Rattle.std.specs.Prelude.{option_and_then}
+use Rattle.std.specs.Option.{option_map}
 use Rattle.std.specs.List.{list_any}
 use Rattle.std.specs.Borrow.{Bor}
 use Rattle.clap.specs.Values.{reading_of, same_text}
 use Rattle.clap.specs.ValueTests.{accepts}
 use Rattle.clap.specs.Walk.{Held, Text, nothing_held, walk}
 use Rattle.clap.specs.Simple.{App, Shape, built, entered, is_simple, matches_of}
-use Rattle.clap.specs.Takes.{built_takes, entered_passes, level_passes, takes}
+use Rattle.clap.specs.Takes.{is_given, built_takes, entered_passes, level_passes, takes}
 use Rattle.clap.specs.declared.builder.value_parser.ValueParser.{ValueParser}
 use Rattle.clap.specs.declared.builder.value_parser.ValueParser.TheVariants as vp
 use Rattle.clap.proofs.OnLiterals.{clap_on_literals}
-use Rattle.clap.proofs.WalkLemmas.{first_value-rows, raw_values-rows, list_any-map}
-use Rattle.sigma_app.specs.Commands.{lent, modes, TakesModes, ask_app_by, app, IsAppOf}
+use Rattle.clap.proofs.WalkLemmas.{both, first_value-rows, raw_values-rows, list_any-map}
+use Rattle.sigma_app.specs.Commands.{lent, modes, TakesModes, ask_app_by, files_app, drill_app, app, IsAppOf}
 use Rattle.sigma_app.specs.declared.commands.CommandName.{CommandName}
 use Rattle.sigma_app.specs.declared.commands.CommandName.TheVariants as command
+use Rattle.sigma_app.specs.Requests.{asks, checks, gives_clauses, exports, drills, asked_of, paths_of, meaning_by}
+use Rattle.sigma_app.proofs.ValueLaws.{level_full, given_first, given_all}
 use Rattle.sigma_app.proofs.ParserLaws.{rows_after_same, level_passes_same}
 
 pub ruleset rows_read = (first_value-rows, raw_values-rows)
@@ -113,3 +118,39 @@ app_simple command.Check a e = ap is_simple e
 app_simple command.Clauses a e = ap is_simple e
 app_simple command.Export a e = ap is_simple e
 app_simple command.Drill a e = ap is_simple e
+
+-- ---- what is taken has values
+
+some_map : {X Y : Type 0} (f : X → Y) (o : Option X) → is_some o ≡ true → is_some (option_map f o) ≡ true
+some_map f None e = e
+some_map f (Some x) e = refl
+
+some_pair : {X Y Z : Type 0} (f : X → Y → Z) (o : Option X) (p : Option Y) → is_some o ≡ true → is_some p ≡ true → is_some (option_and_then (λ x. option_map (f x) p) o) ≡ true
+some_pair f None p e g = e
+some_pair f (Some x) p e g = some_map (f x) p g
+
+files_taken : (name : Text) (words : List Text) → takes (files_app name) words ≡ true → is_some (paths_of (matches_of (files_app name) words)) ≡ true
+unfolding clap_on_literals
+files_taken name words e =
+    let s = (built (files_app name)).top in
+    let rows = matches_of (files_app name) words in
+    let full = level_full s words (omega arith, tt) (sym (leaf_takes s nothing_held words) ∙ e) in
+    given_all (codes "files") rows (both (is_given (codes "files") rows) true full.1).0
+
+pub taken_means : (name : CommandName) (words : List Text) → takes (app name) words ≡ true → is_some (meaning_by name (matches_of (app name) words)) ≡ true
+unfolding clap_on_literals
+taken_means command.Ask words e =
+    let s = (built (ask_app_by modes)).top in
+    let rows = matches_of (ask_app_by modes) words in
+    let full = level_full s words (omega arith, (omega arith, (omega arith, (omega arith, (omega arith, (omega arith, tt)))))) (sym (ask_level modes words) ∙ e) in
+    let query = both (is_given (codes "query") rows) (is_given (codes "files") rows && true) full.1 in
+    let files = both (is_given (codes "files") rows) true query.1 in
+    some_pair (λ q paths. asks (asked_of rows q paths)) _ _ (given_first (codes "query") rows full.0 query.0) (given_all (codes "files") rows files.0)
+taken_means command.Check words e = some_map checks _ (files_taken (codes "check") words e)
+taken_means command.Clauses words e = some_map gives_clauses _ (files_taken (codes "clauses") words e)
+taken_means command.Export words e = some_map exports _ (files_taken (codes "export") words e)
+taken_means command.Drill words e =
+    let s = (built drill_app).top in
+    let rows = matches_of drill_app words in
+    let full = level_full s words (omega arith, tt) (sym (leaf_takes s nothing_held words) ∙ e) in
+    some_map drills _ (given_first (codes "size") rows full.0 (both (is_given (codes "size") rows) true full.1).0)
