@@ -1,23 +1,26 @@
 -- What the words of a command line ask for.
 use Rattle.std.proofs.Common.{◌≡◌, ◌∙◌, refl, sym, ap, ap₂, Bool, true, false, ◌&&◌, List, [], ◌∷◌, map, Option, Some, None, is_some}
-use Rattle.std.proofs.Common.{arith, codes}
-use Rattle.std.specs.Prelude.{option_and_then}
-use Rattle.std.specs.Option.{option_map}
+use Rattle.std.proofs.Common.{arith, codes, Result, Ok, Err, ◌≢◌}
+use Rattle.std.specs.Prelude.{option_and_then, IfOk, IsErrAnd}
+use Rattle.std.specs.Option.{option_map, option_map_or}
 use Rattle.std.specs.List.{list_any}
 use Rattle.std.specs.Borrow.{Bor}
 use Rattle.clap.specs.Values.{reading_of, same_text}
 use Rattle.clap.specs.ValueTests.{accepts}
-use Rattle.clap.specs.Walk.{Held, Text, nothing_held, walk}
+use Rattle.clap.specs.Walk.{Row, Held, Text, nothing_held, walk}
 use Rattle.clap.specs.Simple.{App, Shape, built, entered, is_simple, matches_of}
 use Rattle.clap.specs.Takes.{is_given, built_takes, entered_passes, level_passes, takes}
 use Rattle.clap.specs.declared.builder.value_parser.ValueParser.{ValueParser}
 use Rattle.clap.specs.declared.builder.value_parser.ValueParser.TheVariants as vp
 use Rattle.clap.proofs.OnLiterals.{clap_on_literals}
 use Rattle.clap.proofs.WalkLemmas.{both, first_value-rows, raw_values-rows, list_any-map}
-use Rattle.sigma_app.specs.Commands.{lent, modes, TakesModes, ask_app_by, files_app, drill_app, app, IsAppOf}
+use Rattle.sigma_app.specs.Commands.{named, lent, modes, TakesModes, ask_app_by, files_app, drill_app, app, IsAppOf}
 use Rattle.sigma_app.specs.declared.commands.CommandName.{CommandName}
 use Rattle.sigma_app.specs.declared.commands.CommandName.TheVariants as command
-use Rattle.sigma_app.specs.Requests.{asks, checks, gives_clauses, exports, drills, asked_of, paths_of, meaning_by}
+use Rattle.sigma_app.specs.declared.requests.Request.{Request}
+use Rattle.sigma_app.specs.declared.requests.WordsError.{WordsError}
+use Rattle.sigma_app.specs.declared.requests.WordsError.TheVariants.{Usage, NoMemory}
+use Rattle.sigma_app.specs.Requests.{Meaning, meaning, is_taken, Means, IsTaken, meaning_of, ReadsWords, asks, checks, gives_clauses, exports, drills, asked_of, paths_of, meaning_by}
 use Rattle.sigma_app.proofs.ValueLaws.{level_full, given_first, given_all}
 use Rattle.sigma_app.proofs.ParserLaws.{rows_after_same, level_passes_same}
 
@@ -154,3 +157,65 @@ taken_means command.Drill words e =
     let rows = matches_of drill_app words in
     let full = level_full s words (omega arith, tt) (sym (leaf_takes s nothing_held words) ∙ e) in
     some_map drills _ (given_first (codes "size") rows full.0 (both (is_given (codes "size") rows) true full.1).0)
+
+-- ---- whole command lines
+
+false_true : false ≡ true → ⊥
+false_true e = cc
+
+some_value : {X : Type 0} (o : Option X) → is_some o ≡ true → (x : X) × (o ≡ Some x)
+some_value None e = absurd (false_true e)
+some_value (Some x) e = (x, refl)
+
+some_one : {X : Type 0} (o : Option X) (x y : X) → o ≡ Some x → o ≡ Some y → x ≡ y
+some_one o x y e g = cc
+
+-- words mean one thing at most
+pub means_one : (words : List Text) (a b : Meaning) → Means words a → Means words b → a ≡ b
+means_one words a b e g = some_one (meaning words) a b e g
+
+taken_by : (o : Option CommandName) (rest : List Text) → option_map_or (λ name. takes (app name) rest) o false ≡ true
+    → is_some (option_and_then (λ name. meaning_by name (matches_of (app name) rest)) o) ≡ true
+taken_by None rest e = absurd (false_true e)
+taken_by (Some name) rest e = taken_means name rest e
+
+-- words that are taken mean something
+pub taken_meaning : (words : List Text) → IsTaken words → (value : Meaning) × Means words value
+unfolding meaning is_taken
+taken_meaning [] e = absurd (false_true e)
+taken_meaning (word ∷ rest) e = some_value _ (taken_by (named word) rest e)
+
+pub none_taken : (words : List Text) → words ≡ [] → IsTaken words → ⊥
+unfolding is_taken
+none_taken words e taken = false_true (sym (ap is_taken e) ∙ taken)
+
+pub unnamed_taken : (words rest : List Text) (word : Text) → words ≡ word ∷ rest → named word ≡ None → IsTaken words → ⊥
+unfolding is_taken
+unnamed_taken words rest word e none taken =
+    false_true (sym (ap is_taken e ∙ ap (λ o. option_map_or (λ name. takes (app name) rest) o false) none) ∙ taken)
+
+module _ (words rest : List Text) (word : Text) (name : CommandName) (e : words ≡ word ∷ rest) (called : named word ≡ Some name) where
+  meaning_here : meaning words ≡ meaning_by name (matches_of (app name) rest)
+  unfolding meaning
+  meaning_here = ap meaning e ∙ ap (λ o. option_and_then (λ n. meaning_by n (matches_of (app n) rest)) o) called
+
+  taken_here : is_taken words ≡ takes (app name) rest
+  unfolding is_taken
+  taken_here = ap is_taken e ∙ ap (λ o. option_map_or (λ n. takes (app n) rest) o false) called
+
+  refused_as : (error : WordsError) → (error ≡ Usage → takes (app name) rest ≢ true) → ReadsWords words (Err error)
+  refused_as Usage h = λ taken. h refl (sym taken_here ∙ taken)
+  refused_as NoMemory h = tt
+
+  -- a refusal by the parser, which is passed up
+  pub refused_by : (error : WordsError) (r : Result Request WordsError) → IsErrAnd r (λ other. other ≡ error) → (error ≡ Usage → takes (app name) rest ≢ true) → ReadsWords words r
+  refused_by error (Ok q) is h = absurd is
+  refused_by error (Err other) is h = refused_as other (λ usage. h (sym is ∙ usage))
+
+  -- a request by the rows that the parser gave
+  pub read_by : (r : Result Request WordsError) (rows : List Row) → rows ≡ matches_of (app name) rest → IfOk r (λ q. meaning_by name rows ≡ Some (meaning_of q))
+      → (r ≡ Err Usage → meaning_by name rows ≡ None) → ReadsWords words r
+  read_by (Ok q) rows is found absent = meaning_here ∙ ap (meaning_by name) (sym is) ∙ found
+  read_by (Err Usage) rows is found absent = λ taken.
+      false_true (ap is_some (sym (absent refl) ∙ ap (meaning_by name) is) ∙ taken_means name rest (sym taken_here ∙ taken))
+  read_by (Err NoMemory) rows is found absent = tt
