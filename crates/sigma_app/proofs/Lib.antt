@@ -5,6 +5,7 @@ pub mod PlainLaws
 pub mod ProofLaws
 pub mod ParserLaws
 pub mod RequestLaws
+pub mod RepeatLaws
 pub mod RunLaws
 pub mod ToolLaws
 pub mod ValueLaws

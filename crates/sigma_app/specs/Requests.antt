@@ -73,6 +73,32 @@ Means words value = meaning words ≡ Some value
 abbrev pub IsTaken : List Bytes → Type 0
 IsTaken words = is_taken words ≡ true
 
+-- ---- what is refused although its words are read
+
+-- the files, in the order in which they were written
+abbrev pub paths : Meaning → List Bytes
+paths (asks asked) = asked.paths
+paths (checks files) = files
+paths (gives_clauses files) = files
+paths (exports files) = files
+paths (drills size) = []
+
+-- the query has more bytes than its limit
+abbrev pub is_long : Meaning → Bool
+is_long (asks asked) = nat_lt 8388608 (length asked.query)
+is_long (checks files) = false
+is_long (gives_clauses files) = false
+is_long (exports files) = false
+is_long (drills size) = false
+
+-- some path stands at two places
+abbrev pub stand_twice : List Bytes → Bool
+stand_twice [] = false
+stand_twice (path ∷ rest) = list_any (bytes_eq path) rest || stand_twice rest
+
+abbrev pub is_refused : Meaning → Bool
+is_refused value = is_long value || stand_twice (paths value)
+
 -- ---- what the code reads
 
 abbrev pub texts : List (Bor Bytes) → List Bytes

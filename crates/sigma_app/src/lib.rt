@@ -6,6 +6,7 @@ mod laws;
 mod matching;
 mod page;
 mod proof;
+mod refusals;
 mod requests;
 mod tool;
 mod words;

@@ -48,6 +48,19 @@ pub enum Request<'a> {
     Drill(&'a str),
 }
 
+impl<'a> Request<'a> {
+    /// The paths in the order in which they were written. A drill has none.
+    pub fn files(&self) -> &[&'a str]
+        ensures { spec.texts result.now ≡ spec.paths (spec.meaning_of self.now) }
+    {
+        match self {
+            Request::Ask(ask) => ask.files.as_slice(),
+            Request::Check(files) | Request::Clauses(files) | Request::Export(files) => files.as_slice(),
+            Request::Drill(_) => &[],
+        }
+    }
+}
+
 fn error_of(kind: ErrorKind) -> WordsError
     ensures { kind ≡ ErrorKind.OutOfMemory → result ≡ WordsError.NoMemory }
 {
