@@ -1,5 +1,5 @@
 -- Paths that stand twice.
-use Rattle.std.proofs.Common.{◌≡◌, ◌∙◌, ◌+◌, ◌<◌, ◌||◌, ℕ, Bool, cond, true, false, not, suc, refl, sym, ap, ap₂, arith, List, [], ◌∷◌, length, drop, drop-cons, add-one}
+use Rattle.std.proofs.Common.{◌≡◌, ◌∙◌, ◌+◌, ◌<◌, ◌||◌, ℕ, Bool, cond, true, false, not, zero, suc, refl, sym, ap, ap₂, arith, List, [], ◌∷◌, length, drop, drop-cons, add-one}
 use Rattle.std.specs.List.{list_any, slice_index_or}
 use Rattle.std.specs.Str.{bytes_eq}
 use Rattle.std.specs.Borrow.{Bor}
@@ -8,7 +8,12 @@ use Rattle.std.specs.Ordering.{nat_cmp, is_eq}
 use Rattle.std.specs.Cmp.Lexicographic.{slice_cmp}
 use Rattle.std.specs.BTreeSet.{BTreeSet, contains, Updates}
 use Rattle.std.proofs.lemmas.Map.Text.{is_eq-slice_cmp}
+use Rattle.std.specs.Prelude.{Contains, ◌↔◌}
+use Rattle.std.proofs.lemmas.Map.Views.{Contains-from_any}
+use Rattle.std.proofs.lemmas.Slice.Eq.{bytes_eq-Decides}
 use Rattle.kif_tree.specs.Terms.{Bytes}
+use Rattle.sig_io.specs.Named.{AreDistinct}
+use Rattle.sig_io.proofs.NamedLaws.{distinct-repeated, distinct-cons, distinct-tail}
 use Rattle.sigma_app.specs.Requests.{texts, stand_twice}
 
 abbrev path_cmp : Bor Bytes → Bor Bytes → Ordering
@@ -64,3 +69,31 @@ none_seen seen (q ∷ paths) empty = ap (λ (b : Bool). b || list_any (contains 
 -- before the first path
 pub left_all : (seen : BTreeSet (Bor Bytes)) (paths : List (Bor Bytes)) → ((q : Bor Bytes) → contains path_cmp seen q ≡ false) → stand_twice (texts paths) ≡ left_twice seen paths
 left_all seen paths empty = sym (ap (λ (b : Bool). b || stand_twice (texts paths)) (none_seen seen paths empty))
+
+-- ---- paths that differ
+
+or_right : (a b : Bool) → b ≡ true → (a || b) ≡ true
+or_right true b e = refl
+or_right false b e = e
+
+false_true : false ≡ true → ⊥
+false_true e = cc
+
+any_equal : (path : Bytes) (files : List Bytes) → Contains files path → list_any (bytes_eq path) files ≡ true
+any_equal path [] (k, within, is) = absurd (omega arith)
+any_equal path (file ∷ files) (zero, within, is) = ap (λ (b : Bool). b || list_any (bytes_eq path) files) ((bytes_eq-Decides path file).1 (sym is))
+any_equal path (file ∷ files) (suc k, within, is) = or_right (bytes_eq path file) _ (any_equal path files (k, omega arith, is))
+
+pub distinct_paths : (files : List Bytes) → (stand_twice files ≡ false) ↔ AreDistinct files
+distinct_paths [] = (λ e. λ i j d below within. absurd (omega arith), λ apart. refl)
+distinct_paths (path ∷ files) = go (list_any (bytes_eq path) files) refl (distinct_paths files)
+  where
+    go : (b : Bool) → list_any (bytes_eq path) files ≡ b → (stand_twice files ≡ false) ↔ AreDistinct files → ((b || stand_twice files) ≡ false) ↔ AreDistinct (path ∷ files)
+    go true e later = (
+      λ h. absurd (false_true (sym h)),
+      λ apart. absurd (distinct-repeated path files (Contains-from_any (λ x y. (bytes_eq-Decides x y).0) path files e) apart),
+    )
+    go false e later = (
+      λ h. distinct-cons path files (λ found. false_true (sym e ∙ any_equal path files found)) (later.0 h),
+      λ apart. later.1 (distinct-tail path files apart),
+    )

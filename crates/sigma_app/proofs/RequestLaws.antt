@@ -1,7 +1,9 @@
 -- What the words of a command line ask for.
 use Rattle.std.proofs.Common.{◌≡◌, ◌∙◌, refl, sym, ap, ap₂, Bool, true, false, ◌&&◌, List, [], ◌∷◌, map, Option, Some, None, is_some}
-use Rattle.std.proofs.Common.{arith, codes, Result, Ok, Err, ◌≢◌}
-use Rattle.std.specs.Prelude.{option_and_then, IfOk, IsErrAnd}
+use Rattle.std.specs.Str.{bytes_eq}
+use Rattle.std.proofs.lemmas.Slice.Eq.{bytes_eq-Decides}
+use Rattle.std.proofs.Common.{arith, inl, inr, ◌⊎◌, ◌||◌, codes, Result, Ok, Err, ◌≢◌}
+use Rattle.std.specs.Prelude.{◌↔◌, option_and_then, IfOk, IsErrAnd}
 use Rattle.std.specs.Option.{option_map, option_map_or}
 use Rattle.std.specs.List.{list_any}
 use Rattle.std.specs.Borrow.{Bor}
@@ -219,3 +221,17 @@ module _ (words rest : List Text) (word : Text) (name : CommandName) (e : words 
   read_by (Err Usage) rows is found absent = λ taken.
       false_true (ap is_some (sym (absent refl) ∙ ap (meaning_by name) is) ∙ taken_means name rest (sym taken_here ∙ taken))
   read_by (Err NoMemory) rows is found absent = tt
+
+-- ---- the words of the modes
+
+pub two_modes : (word : Text) → (accepts false modes word ≡ true) ↔ ((word ≡ codes "support") ⊎ (word ≡ codes "full"))
+two_modes word = (forth (bytes_eq (codes "support") word) (bytes_eq (codes "full") word) refl refl, back)
+  where
+    forth : (a b : Bool) → bytes_eq (codes "support") word ≡ a → bytes_eq (codes "full") word ≡ b → (a || (b || false)) ≡ true → (word ≡ codes "support") ⊎ (word ≡ codes "full")
+    forth true b e g h = inl (sym ((bytes_eq-Decides (codes "support") word).0 e))
+    forth false true e g h = inr (sym ((bytes_eq-Decides (codes "full") word).0 g))
+    forth false false e g h = absurd (false_true h)
+
+    back : (word ≡ codes "support") ⊎ (word ≡ codes "full") → accepts false modes word ≡ true
+    back (inl is) = ap (accepts false modes) is
+    back (inr is) = ap (accepts false modes) is

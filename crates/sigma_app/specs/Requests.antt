@@ -1,12 +1,14 @@
 -- What the words of a command line ask for: the values that the parser of command lines promises for them.
-use Rattle.std.specs.Prelude.{◌≡◌, ◌≢◌, ℕ, nat_lt, List, [], ◌∷◌, map, length, Option, Some, None, option_map, option_and_then, Bool, true, false, ◌||◌, Result, Ok, Err, codes}
+use Rattle.std.specs.Prelude.{◌≡◌, ◌↔◌, ◌⊎◌, nat_lt, List, [], ◌∷◌, map, length, Option, Some, None, option_map, option_and_then, Bool, true, false, ◌||◌, Result, Ok, Err, codes}
 use Rattle.std.specs.Option.{option_map_or}
 use Rattle.std.specs.List.{list_any}
 use Rattle.std.specs.Str.{bytes_eq}
 use Rattle.std.specs.Borrow.{Bor}
+use Rattle.clap.specs.ValueTests.{accepts}
 use Rattle.clap.specs.Words.{Row, takes, matches_of, first_of, all_of}
 use Rattle.kif_tree.specs.Terms.{Bytes}
-use Rattle.sigma_app.specs.Commands.{named, app}
+use Rattle.sig_io.specs.Named.{AreDistinct}
+use Rattle.sigma_app.specs.Commands.{named, app, modes}
 use Rattle.sigma_app.specs.declared.commands.CommandName.{CommandName}
 use Rattle.sigma_app.specs.declared.commands.CommandName.TheVariants as command
 use Rattle.sigma_app.specs.declared.requests.Ask.{Ask}
@@ -127,3 +129,21 @@ abbrev pub ReadsWords : List Bytes → Result Request WordsError → Type 0
 ReadsWords words (Ok r) = Means words (meaning_of r)
 ReadsWords words (Err Usage) = IsTaken words → ⊥
 ReadsWords words (Err NoMemory) = Unit {0}
+
+-- ---- laws
+
+-- words mean one thing at most
+abbrev pub MeansOne : Type 0
+MeansOne = (words : List Bytes) (a b : Meaning) → Means words a → Means words b → a ≡ b
+
+-- words that the parser promises to take mean something
+abbrev pub TakenMeans : Type 0
+TakenMeans = (words : List Bytes) → IsTaken words → (value : Meaning) × Means words value
+
+-- an option for the mode takes the two words and no others
+abbrev pub TakesTwoModes : Type 0
+TakesTwoModes = (word : Bytes) → (accepts false modes word ≡ true) ↔ ((word ≡ codes "support") ⊎ (word ≡ codes "full"))
+
+-- no path stands twice exactly where the paths differ
+abbrev pub TwiceIsExact : Type 0
+TwiceIsExact = (files : List Bytes) → (stand_twice files ≡ false) ↔ AreDistinct files

@@ -1,7 +1,16 @@
 //! Laws of the definitions, each as the contract of a function without a body.
 ghost use Rattle.sigma_app.specs.Laws as laws;
+ghost use Rattle.sigma_app.specs.Requests as requests;
 
 /// The tool gives one status and one text for the same words and files.
 pub fn one_outcome_law()
     ensures { laws.ToolIsOne }
+{}
+
+/// The words of a command line mean one thing at most, and something where the parser promises to take them.
+pub fn words_law()
+    ensures one { requests.MeansOne }
+    ensures some { requests.TakenMeans }
+    ensures modes { requests.TakesTwoModes }
+    ensures twice { requests.TwiceIsExact }
 {}

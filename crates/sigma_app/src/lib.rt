@@ -11,7 +11,7 @@ mod requests;
 mod tool;
 mod words;
 
-pub use laws::one_outcome_law;
+pub use laws::{one_outcome_law, words_law};
 pub use tool::run_tool;
 
 #[cfg(test)]
