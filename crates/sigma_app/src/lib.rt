@@ -16,3 +16,5 @@ pub use tool::run_tool;
 
 #[cfg(test)]
 mod tests;
+#[cfg(test)]
+mod tests_requests;
