@@ -1,5 +1,5 @@
 //! The words of a command line.
-ghost use Rattle.std.specs.Prelude.{◌≡◌, ◌++◌, ◌∷◌, ◌<◌, ◌-◌, ◌^◌, [], length, OnOk, OnErr, slice_get};
+ghost use Rattle.std.specs.Prelude.{◌≡◌, ◌++◌, ◌∷◌, ◌<◌, ◌-◌, ◌^◌, [], length, OnOk, OnErr, slice_get, map, string_bytes};
 ghost use Rattle.std.specs.Option.{option_map};
 
 use sigma_base::NoMemory;
@@ -49,6 +49,13 @@ impl Words {
             Some(word) => Some(word.as_str()),
             None => None,
         }
+    }
+
+    /// Lends the words in order. It takes no memory.
+    pub fn items(&self) -> &[String]
+        ensures { map string_bytes result.now ≡ self.now }
+    {
+        self.items.as_slice()
     }
 
     /// Adds the word last. A refusal leaves the words as before.

@@ -25,7 +25,7 @@ use Rattle.sigma_app.specs.declared.files.Part.{Part}
 use Rattle.sigma_app.specs.declared.files.Body.{Body}
 use Rattle.sigma_app.specs.declared.files.Body.TheVariants as body
 use Rattle.sigma_app.specs.declared.reply.Reply.{Reply}
-use Rattle.sigma_app.specs.Requests.{stands_twice}
+use Rattle.sigma_app.specs.Requests.{stand_twice}
 use Rattle.sigma_app.specs.Files.{Contents, byte_limit, IsWhole, AreWhole, IsReached, live_size, AreShort, SpellParts}
 use Rattle.sigma_app.specs.Plain.{IsPlainAtom}
 use Rattle.sigma_app.specs.Tool.{Is, absent_text, long_text, fault_text, fault_in, IsOnlyForm, SpellsQuery, IsFaulty, HasFault, IsAbsent, IsTooLong, Agrees}
@@ -244,10 +244,10 @@ not_among first path [] later h = λ e. differs first path ((either_false (bytes
 not_among first path (other ∷ earlier) later h = not_among first path earlier later ((either_false (bytes_eq first other) (list_any (bytes_eq first) (earlier ++ path ∷ later)) h).1)
 
 -- where no path stands twice, each is apart from those before it
-pub apart_before : (path : Bytes) (earlier later : List Bytes) → stands_twice (earlier ++ path ∷ later) ≡ false → Apart path earlier
+pub apart_before : (path : Bytes) (earlier later : List Bytes) → stand_twice (earlier ++ path ∷ later) ≡ false → Apart path earlier
 apart_before path [] later h = tt
 apart_before path (first ∷ earlier) later h =
-    let parted = either_false (list_any (bytes_eq first) (earlier ++ path ∷ later)) (stands_twice (earlier ++ path ∷ later)) h in
+    let parted = either_false (list_any (bytes_eq first) (earlier ++ path ∷ later)) (stand_twice (earlier ++ path ∷ later)) h in
     (not_among first path earlier later parted.0, apart_before path earlier later parted.1)
 
 -- ---- forms of parts
@@ -273,14 +273,14 @@ parted paths i d below =
     ∙ ap (λ (ps : List Bytes). ps ++ lent (drop (i + 1) paths)) (map_more (λ (s : Bor Bytes). s.now) paths i d below)
     ∙ append_assoc (lent (take i paths)) ((get_or paths i d).now ∷ []) (lent (drop (i + 1) paths))
 
-apart_at : (paths : List (Bor Bytes)) (i : ℕ) (d : Bor Bytes) → i < length paths → stands_twice (lent paths) ≡ false → Apart (get_or paths i d).now (lent (take i paths))
-apart_at paths i d below h = apart_before (get_or paths i d).now (lent (take i paths)) (lent (drop (i + 1) paths)) (ap stands_twice (sym (parted paths i d below)) ∙ h)
+apart_at : (paths : List (Bor Bytes)) (i : ℕ) (d : Bor Bytes) → i < length paths → stand_twice (lent paths) ≡ false → Apart (get_or paths i d).now (lent (take i paths))
+apart_at paths i d below h = apart_before (get_or paths i d).now (lent (take i paths)) (lent (drop (i + 1) paths)) (ap stand_twice (sym (parted paths i d below)) ∙ h)
 
 length-lent : (paths : List (Bor Bytes)) (i : ℕ) → i < length paths → length (lent (take i paths)) ≡ i
 length-lent paths i below = length-map (take i paths) (λ (s : Bor Bytes). s.now) ∙ length-take-le i paths (omega (arith, below))
 
 pub got_step : (told known : Option Contents) (before now later : ℕ) (paths : List (Bor Bytes)) (i number : ℕ) (d : Bor Bytes) (parts more : List Part) (part : Part)
-    → i < length paths → number ≡ i → stands_twice (lent paths) ≡ false → known ≡ told → Got told before now (lent (take i paths)) parts
+    → i < length paths → number ≡ i → stand_twice (lent paths) ≡ false → known ≡ told → Got told before now (lent (take i paths)) parts
     → part.name ≡ (get_or paths i d).now → part.number ≡ number + 1 → FetchesOne (get_or paths i d).now known now later (body.Text part.text) → more ≡ parts ++ part ∷ []
     → Got told before later (lent (take (i + 1) paths)) more
 got_step told known before now later paths i number d parts more part below counted apart same got named numbered one e =
@@ -291,7 +291,7 @@ got_step told known before now later paths i number d parts more part below coun
     (subst (λ (t : Option Contents). FetchesOne (get_or paths i d).now t now later (body.Text part.text)) same one)))
 
 pub got_end : (told known : Option Contents) (before now later : ℕ) (paths : List (Bor Bytes)) (i : ℕ) (d : Bor Bytes) (parts : List Part) (reply : Reply)
-    → i < length paths → stands_twice (lent paths) ≡ false → known ≡ told → Got told before now (lent (take i paths)) parts
+    → i < length paths → stand_twice (lent paths) ≡ false → known ≡ told → Got told before now (lent (take i paths)) parts
     → FetchesOne (get_or paths i d).now known now later (body.Stopped reply)
     → OnFetches (lent paths) told before later (λ contents. IsAbsent contents (lent paths) reply.status reply.text ⊎ IsTooLong contents (lent paths) reply.status reply.text) reply.status reply.text
 got_end told known before now later paths i d parts reply below apart same got one =

@@ -3,7 +3,11 @@ pub mod EvidenceLaws
 pub mod FileLaws
 pub mod MatchLaws
 pub mod OutcomeLaws
+pub mod ParserLaws
 pub mod PlainLaws
 pub mod ProofLaws
+pub mod RepeatLaws
+pub mod RequestLaws
 pub mod RunLaws
 pub mod ToolLaws
+pub mod ValueLaws

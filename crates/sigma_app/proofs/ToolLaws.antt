@@ -20,10 +20,10 @@ use Rattle.sigma_app.specs.declared.files.Fetching.TheVariants.{Stopped}
 use Rattle.sigma_app.specs.declared.requests.Ask.{Ask}
 use Rattle.sigma_app.specs.declared.reply.Reply.{Reply}
 use Rattle.sigma_base.specs.declared.memory.NoMemory.{NoMemory}
-use Rattle.sigma_app.specs.Requests.{Asked, asked_value, texts, Meaning, asks, checks, gives_clauses, exports, drills, Means, IsTaken}
+use Rattle.sigma_app.specs.Requests.{Asked, asked_value, texts, Meaning, asks, checks, gives_clauses, exports, drills, Means, IsTaken, is_refused}
 use Rattle.sigma_app.specs.Plain.{IsPlainAtom}
 use Rattle.sigma_app.specs.Files.{Contents, AreWhole, AreShort, live_size, load_names, SpellParts}
-use Rattle.sigma_app.specs.Tool.{Is, usage, not_built, live_text, many_text, live_limit, file_limit, is_refused, has_option, found_page, Shows, SpellsQuery, IsPlainFact, IsPlain, OnForms, OnTexts, OnParts, IsAbsent, IsTooLong, OnFiles, OnAsked, OnBuilt, HasMeaning}
+use Rattle.sigma_app.specs.Tool.{Is, usage, not_built, live_text, many_text, live_limit, file_limit, has_option, found_page, Shows, SpellsQuery, IsPlainFact, IsPlain, OnForms, OnTexts, OnParts, IsAbsent, IsTooLong, OnFiles, OnAsked, OnBuilt, HasMeaning}
 use Rattle.sigma_app.specs.Run.{Over, Fetches, OnAskFiles, OnAsk, OnGoodRequest, OnRequest, Obtains}
 use Rattle.sigma_app.proofs.FileLaws.{whole_short, whole_length}
 

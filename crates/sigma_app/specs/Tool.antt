@@ -10,7 +10,7 @@ use Rattle.kif_reader.specs.declared.kinds.ReadError.{ReadError}
 use Rattle.kif_reader.specs.declared.kinds.ReadError.TheVariants as unread
 use Rattle.kif_reader.specs.Spelling.{Spells, FirstFault}
 use Rattle.sig_io.specs.Told.{body_of}
-use Rattle.sigma_app.specs.Requests.{Asked, Meaning, asks, checks, gives_clauses, exports, drills, Means, IsTaken, stands_twice}
+use Rattle.sigma_app.specs.Requests.{Asked, Meaning, asks, checks, gives_clauses, exports, drills, Means, IsTaken, is_refused}
 use Rattle.sigma_app.specs.Plain.{IsPlainAtom}
 use Rattle.sigma_app.specs.declared.files.Part.{Part}
 use Rattle.sigma_app.specs.declared.forms.Reading.{Reading}
@@ -67,18 +67,6 @@ syntax_text path code spot =
     codes "syntax " ++ (decimal code ++ (32 ∷ (path ++ (58 ∷ (decimal spot.line ++ (58 ∷ (decimal spot.column ++ 10 ∷ [])))))))
 
 -- ---- the words
-
--- the query has more bytes than a text may have, or a path stands twice
-abbrev pub asks_badly : Asked → Bool
-asks_badly asked = not (nat_le (length asked.query) byte_limit) || stands_twice asked.paths
-
--- the words have a meaning that is refused all the same
-abbrev pub is_refused : Meaning → Bool
-is_refused (asks asked) = asks_badly asked
-is_refused (checks paths) = stands_twice paths
-is_refused (gives_clauses paths) = stands_twice paths
-is_refused (exports paths) = stands_twice paths
-is_refused (drills size) = false
 
 -- an option is given
 abbrev pub has_option : Asked → Bool

@@ -1,7 +1,7 @@
 //! The files of a command, fetched in order.
 ghost use Rattle.std.specs.Prelude.{◌≡◌, ◌≤◌, false, map, length, IfOk, OnErr};
 ghost use Rattle.sigma_app.specs.Files as spec;
-ghost use Rattle.sigma_app.specs.Requests.{stands_twice};
+ghost use Rattle.sigma_app.specs.Requests.{stand_twice};
 ghost use Rattle.sigma_app.specs.Tool as tool;
 ghost use Rattle.sigma_app.specs.Run as run;
 
@@ -68,7 +68,7 @@ pub fn fetch_files<F: Files>(
     files: &mut F,
 ) -> Result<Fetching, NoMemory>
     requires few { length paths.now ≤ 64 }
-    requires apart { stands_twice (map (λ s. s.now) paths.now) ≡ false }
+    requires apart { stand_twice (map (λ s. s.now) paths.now) ≡ false }
     ensures told { F.told files.new ≡ F.told files.old }
     ensures found { IfOk result (λ fetching. run.Fetches (map (λ s. s.now) paths.now) (F.told files.old) (F.faults files.old) (F.faults files.new) fetching) }
     ensures cause { OnErr result (run.MayHaveRisen (F.faults files.old) (F.faults files.new)) }

@@ -1,5 +1,6 @@
 //! Laws of the definitions, each as the contract of a function without a body.
 ghost use Rattle.sigma_app.specs.Laws as laws;
+ghost use Rattle.sigma_app.specs.Requests as requests;
 
 /// The tool gives one status and one text for the same words and files. For words that the promise of the parser of command lines doesn't
 /// take, the other outcome is the usage.
@@ -13,4 +14,12 @@ pub fn plain_atom_law()
     ensures facts { laws.FactsAreGround }
     ensures queries { laws.QueriesHaveNoRow }
     ensures heads { laws.HeadsArePlain }
+{}
+
+/// The words of a command line mean one thing at most, and something where the parser promises to take them.
+pub fn words_law()
+    ensures one { requests.MeansOne }
+    ensures some { requests.TakenMeans }
+    ensures modes { requests.TakesTwoModes }
+    ensures twice { requests.TwiceIsExact }
 {}

@@ -9,10 +9,15 @@ mod matching;
 mod page;
 mod plain;
 mod proof;
+mod refusals;
 mod reply;
 mod requests;
 mod tool;
 
-pub use laws::{one_outcome_law, plain_atom_law};
+pub use laws::{one_outcome_law, plain_atom_law, words_law};
 pub use tool::run_tool;
 
+#[cfg(test)]
+mod tests;
+#[cfg(test)]
+mod tests_requests;

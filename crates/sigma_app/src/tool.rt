@@ -9,14 +9,15 @@ ghost use Rattle.sigma_app.specs.Requests as requests;
 ghost use Rattle.sigma_app.specs.Tool as spec;
 ghost use Rattle.sigma_app.specs.Run as run;
 
-use crate::files::{BYTE_LIMIT, Fetching, Part, fetch_files, live_size};
+use crate::files::{Fetching, Part, fetch_files, live_size};
 use crate::forms::{Reading, read_parts, read_query};
 use crate::matching::{binding_of, first_match};
 use crate::page::{append_answer, append_end};
 use crate::plain::are_plain_facts;
 use crate::proof::proof_lines;
+use crate::refusals::is_refused;
 use crate::reply::{Reply, fixed_reply, limit_reply};
-use crate::requests::{Ask, Request, WordsError, has_twice, request_of};
+use crate::requests::{Ask, Request, WordsError, request_of};
 use kif_tree::{Form, LoadName, Located, Subst, Text};
 use sig_io::{Files, Sink, Words, WriteError, write_all};
 use sigma_base::{Listed, NoMemory};
@@ -155,7 +156,7 @@ fn parts_reply(alloc: Global, ask: &Ask<'_>, parts: &[Part]) -> Result<Reply, No
 fn files_reply<F: Files>(alloc: Global, ask: &Ask<'_>, files: &mut F) -> Result<Reply, NoMemory>
     requires query { length ask.now.query.now ≤ 8388608 }
     requires few { length ask.now.files.items ≤ 64 }
-    requires apart { requests.stands_twice (requests.texts ask.now.files.items) ≡ false }
+    requires apart { requests.stand_twice (requests.texts ask.now.files.items) ≡ false }
     ensures told { F.told files.new ≡ F.told files.old }
     ensures reply { IfOk result (λ reply. run.OnAskFiles (requests.asked_value ask.now) (F.told files.old) (F.faults files.old) (F.faults files.new) reply.status reply.text) }
     ensures cause { OnErr result (run.MayHaveRisen (F.faults files.old) (F.faults files.new)) }
@@ -174,7 +175,7 @@ fn has_option(ask: &Ask<'_>) -> bool
 
 /// The reply to a query whose words are good.
 fn ask_reply<F: Files>(alloc: Global, ask: &Ask<'_>, files: &mut F) -> Result<Reply, NoMemory>
-    requires good { spec.asks_badly (requests.asked_value ask.now) ≡ false }
+    requires good { requests.is_refused (requests.asks (requests.asked_value ask.now)) ≡ false }
     ensures told { F.told files.new ≡ F.told files.old }
     ensures reply { IfOk result (λ reply. run.OnAsk (requests.asked_value ask.now) (F.told files.old) (F.faults files.old) (F.faults files.new) reply.status reply.text) }
     ensures cause { OnErr result (run.MayHaveRisen (F.faults files.old) (F.faults files.new)) }
@@ -189,26 +190,12 @@ fn ask_reply<F: Files>(alloc: Global, ask: &Ask<'_>, files: &mut F) -> Result<Re
     files_reply(alloc, ask, files)
 }
 
-/// The words are refused although they have a meaning: the query is too long, or a path stands twice.
-fn is_refused(alloc: Global, request: &Request<'_>) -> Result<bool, NoMemory>
-    ensures { IfOk result (λ refused. refused ≡ spec.is_refused (requests.meaning_of request.now)) }
-{
-    match request {
-        Request::Ask(ask) => {
-            Ok(ask.query.len() > BYTE_LIMIT || has_twice(alloc, ask.files.as_slice())?)
-        }
-        Request::Check(files) | Request::Clauses(files) | Request::Export(files) => {
-            has_twice(alloc, files.as_slice())
-        }
-        Request::Drill(_) => Ok(false),
-    }
-}
-
+/// The reply to a request.
 fn request_reply<F: Files>(alloc: Global, request: &Request<'_>, files: &mut F) -> Result<Reply, NoMemory>
     ensures told { F.told files.new ≡ F.told files.old }
     ensures reply { IfOk result (λ reply. run.OnRequest (requests.meaning_of request.now) (F.told files.old) (F.faults files.old) (F.faults files.new) reply.status reply.text) }
     ensures cause { OnErr result (run.MayHaveRisen (F.faults files.old) (F.faults files.new)) }
-    ensures unread { spec.is_refused (requests.meaning_of request.now) ≡ true → F.faults files.new ≡ F.faults files.old }
+    ensures unread { requests.is_refused (requests.meaning_of request.now) ≡ true → F.faults files.new ≡ F.faults files.old }
 {
     if is_refused(alloc, request)? {
         return usage(alloc);

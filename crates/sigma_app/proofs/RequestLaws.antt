@@ -1,0 +1,237 @@
+-- What the words of a command line ask for.
+use Rattle.std.proofs.Common.{◌≡◌, ◌∙◌, refl, sym, ap, ap₂, Bool, true, false, ◌&&◌, List, [], ◌∷◌, map, Option, Some, None, is_some}
+use Rattle.std.specs.Str.{bytes_eq}
+use Rattle.std.proofs.lemmas.Slice.Eq.{bytes_eq-Decides}
+use Rattle.std.proofs.Common.{arith, inl, inr, ◌⊎◌, ◌||◌, codes, Result, Ok, Err, ◌≢◌}
+use Rattle.std.specs.Prelude.{◌↔◌, option_and_then, IfOk, IsErrAnd}
+use Rattle.std.specs.Option.{option_map, option_map_or}
+use Rattle.std.specs.List.{list_any}
+use Rattle.std.specs.Borrow.{Bor}
+use Rattle.clap.specs.Values.{reading_of, same_text}
+use Rattle.clap.specs.ValueTests.{accepts}
+use Rattle.clap.specs.Walk.{Row, Held, Text, nothing_held, walk}
+use Rattle.clap.specs.Simple.{App, Shape, built, entered, is_simple, matches_of}
+use Rattle.clap.specs.Takes.{is_given, built_takes, entered_passes, level_passes, takes}
+use Rattle.clap.specs.declared.builder.value_parser.ValueParser.{ValueParser}
+use Rattle.clap.specs.declared.builder.value_parser.ValueParser.TheVariants as vp
+use Rattle.clap.proofs.OnLiterals.{clap_on_literals}
+use Rattle.clap.proofs.WalkLemmas.{both, first_value-rows, raw_values-rows, list_any-map}
+use Rattle.sigma_app.specs.Commands.{named, lent, modes, TakesModes, ask_app_by, files_app, drill_app, app, IsAppOf}
+use Rattle.sigma_app.specs.declared.commands.CommandName.{CommandName}
+use Rattle.sigma_app.specs.declared.commands.CommandName.TheVariants as command
+use Rattle.sigma_app.specs.declared.requests.Request.{Request}
+use Rattle.sigma_app.specs.declared.requests.WordsError.{WordsError}
+use Rattle.sigma_app.specs.declared.requests.WordsError.TheVariants.{Usage, NoMemory}
+use Rattle.sigma_app.specs.Requests.{Meaning, meaning, is_taken, Means, IsTaken, meaning_of, ReadsWords, asks, checks, gives_clauses, exports, drills, asked_of, paths_of, meaning_by}
+use Rattle.sigma_app.proofs.ValueLaws.{level_full, given_first, given_all}
+use Rattle.sigma_app.proofs.ParserLaws.{rows_after_same, level_passes_same}
+
+pub ruleset rows_read = (first_value-rows, raw_values-rows)
+
+-- ---- the words of the modes behind any references
+
+-- the parser with its names behind other references
+abbrev lent_again : ValueParser → ValueParser
+lent_again vp.String = vp.String
+lent_again vp.NonEmptyString = vp.NonEmptyString
+lent_again vp.Bool = vp.Bool
+lent_again vp.Boolish = vp.Boolish
+lent_again vp.Falsey = vp.Falsey
+lent_again (vp.Signed low high) = vp.Signed low high
+lent_again (vp.Unsigned low high) = vp.Unsigned low high
+lent_again vp.Float = vp.Float
+lent_again vp.Char = vp.Char
+lent_again (vp.Names names) = vp.Names (lent (map (λ s. lent s.now) names.now))
+lent_again (vp.Values values) = vp.Values values
+
+reads : (p : ValueParser) → reading_of (lent_again p) ≡ reading_of p
+reads vp.String = refl
+reads vp.NonEmptyString = refl
+reads vp.Bool = refl
+reads vp.Boolish = refl
+reads vp.Falsey = refl
+reads (vp.Signed low high) = refl
+reads (vp.Unsigned low high) = refl
+reads vp.Float = refl
+reads vp.Char = refl
+reads (vp.Names names) = refl
+reads (vp.Values values) = refl
+
+passes : (ignores : Bool) (p : ValueParser) (text : Text) → accepts ignores (lent_again p) text ≡ accepts ignores p text
+passes ignores vp.String text = refl
+passes ignores vp.NonEmptyString text = refl
+passes ignores vp.Bool text = refl
+passes ignores vp.Boolish text = refl
+passes ignores vp.Falsey text = refl
+passes ignores (vp.Signed low high) text = refl
+passes ignores (vp.Unsigned low high) text = refl
+passes ignores vp.Float text = refl
+passes ignores vp.Char text = refl
+passes ignores (vp.Names names) text = sym (list_any-map (λ (s : Bor Text). same_text ignores s.now text) (λ (s : Bor Text). lent s.now) names.now)
+passes ignores (vp.Values values) text = refl
+
+lent_texts : (names : List (Bor Text)) → map (λ s. lent s.now) names ≡ map lent (map (λ s. s.now) names)
+lent_texts [] = refl
+lent_texts (s ∷ names) = ap (λ (rest : List (Bor Text)). lent s.now ∷ rest) (lent_texts names)
+
+modes_lent : (p : ValueParser) → TakesModes p → lent_again p ≡ modes
+modes_lent p (names, is, texts) = ap lent_again is ∙ ap (λ (xs : List (Bor Text)). vp.Names (lent xs)) (lent_texts names.now ∙ ap (map lent) texts)
+
+ask_matches : (p : ValueParser) → TakesModes p → (words : List Text) → matches_of (ask_app_by p) words ≡ matches_of (ask_app_by modes) words
+ask_matches p is words =
+    sym (rows_after_same lent_again reads passes (built (ask_app_by p)).top.rules [] words) ∙ ap (λ (q : ValueParser). matches_of (ask_app_by q) words) (modes_lent p is)
+
+-- ---- a command without subcommands
+
+leaf_takes : (s : Shape) (h : Held) (words : List Text) → built_takes (record { top = s; subs = [] }) h words ≡ level_passes s [] h words false
+leaf_takes s h words = go (walk s.rules [] h words).stopped
+  where
+    go : (stop : Option (Text × List Text))
+        → (entered_passes (record { top = s; subs = [] }) stop && level_passes s [] h words (is_some (entered (record { top = s; subs = [] }) stop))) ≡ level_passes s [] h words false
+    go None = refl
+    go (Some p) = refl
+
+ask_level : (p : ValueParser) (words : List Text) → takes (ask_app_by p) words ≡ level_passes (built (ask_app_by p)).top [] nothing_held words false
+unfolding clap_on_literals
+ask_level p words = leaf_takes (built (ask_app_by p)).top nothing_held words
+
+ask_takes : (p : ValueParser) → TakesModes p → (words : List Text) → takes (ask_app_by p) words ≡ takes (ask_app_by modes) words
+ask_takes p is words =
+    ask_level p words ∙ sym (level_passes_same lent_again reads passes (built (ask_app_by p)).top [] nothing_held words false)
+    ∙ sym (ask_level (lent_again p) words) ∙ ap (λ (q : ValueParser). takes (ask_app_by q) words) (modes_lent p is)
+
+-- ---- the command that the code builds
+
+pub app_matches : (name : CommandName) (a : App) (words : List Text) → IsAppOf name a → matches_of a words ≡ matches_of (app name) words
+app_matches command.Ask a words (p, is, e) = ap (λ (b : App). matches_of b words) e ∙ ask_matches p is words
+app_matches command.Check a words e = ap (λ (b : App). matches_of b words) e
+app_matches command.Clauses a words e = ap (λ (b : App). matches_of b words) e
+app_matches command.Export a words e = ap (λ (b : App). matches_of b words) e
+app_matches command.Drill a words e = ap (λ (b : App). matches_of b words) e
+
+pub app_takes : (name : CommandName) (a : App) (words : List Text) → IsAppOf name a → takes a words ≡ takes (app name) words
+app_takes command.Ask a words (p, is, e) = ap (λ (b : App). takes b words) e ∙ ask_takes p is words
+app_takes command.Check a words e = ap (λ (b : App). takes b words) e
+app_takes command.Clauses a words e = ap (λ (b : App). takes b words) e
+app_takes command.Export a words e = ap (λ (b : App). takes b words) e
+app_takes command.Drill a words e = ap (λ (b : App). takes b words) e
+
+pub app_simple : (name : CommandName) (a : App) → IsAppOf name a → is_simple a ≡ true
+unfolding clap_on_literals
+app_simple command.Ask a (p, is, e) = ap is_simple e
+app_simple command.Check a e = ap is_simple e
+app_simple command.Clauses a e = ap is_simple e
+app_simple command.Export a e = ap is_simple e
+app_simple command.Drill a e = ap is_simple e
+
+-- ---- what is taken has values
+
+some_map : {X Y : Type 0} (f : X → Y) (o : Option X) → is_some o ≡ true → is_some (option_map f o) ≡ true
+some_map f None e = e
+some_map f (Some x) e = refl
+
+some_pair : {X Y Z : Type 0} (f : X → Y → Z) (o : Option X) (p : Option Y) → is_some o ≡ true → is_some p ≡ true → is_some (option_and_then (λ x. option_map (f x) p) o) ≡ true
+some_pair f None p e g = e
+some_pair f (Some x) p e g = some_map (f x) p g
+
+files_taken : (name : Text) (words : List Text) → takes (files_app name) words ≡ true → is_some (paths_of (matches_of (files_app name) words)) ≡ true
+unfolding clap_on_literals
+files_taken name words e =
+    let s = (built (files_app name)).top in
+    let rows = matches_of (files_app name) words in
+    let full = level_full s words (omega arith, tt) (sym (leaf_takes s nothing_held words) ∙ e) in
+    given_all (codes "files") rows (both (is_given (codes "files") rows) true full.1).0
+
+pub taken_means : (name : CommandName) (words : List Text) → takes (app name) words ≡ true → is_some (meaning_by name (matches_of (app name) words)) ≡ true
+unfolding clap_on_literals
+taken_means command.Ask words e =
+    let s = (built (ask_app_by modes)).top in
+    let rows = matches_of (ask_app_by modes) words in
+    let full = level_full s words (omega arith, (omega arith, (omega arith, (omega arith, (omega arith, (omega arith, tt)))))) (sym (ask_level modes words) ∙ e) in
+    let query = both (is_given (codes "query") rows) (is_given (codes "files") rows && true) full.1 in
+    let files = both (is_given (codes "files") rows) true query.1 in
+    some_pair (λ q paths. asks (asked_of rows q paths)) _ _ (given_first (codes "query") rows full.0 query.0) (given_all (codes "files") rows files.0)
+taken_means command.Check words e = some_map checks _ (files_taken (codes "check") words e)
+taken_means command.Clauses words e = some_map gives_clauses _ (files_taken (codes "clauses") words e)
+taken_means command.Export words e = some_map exports _ (files_taken (codes "export") words e)
+taken_means command.Drill words e =
+    let s = (built drill_app).top in
+    let rows = matches_of drill_app words in
+    let full = level_full s words (omega arith, tt) (sym (leaf_takes s nothing_held words) ∙ e) in
+    some_map drills _ (given_first (codes "size") rows full.0 (both (is_given (codes "size") rows) true full.1).0)
+
+-- ---- whole command lines
+
+false_true : false ≡ true → ⊥
+false_true e = cc
+
+some_value : {X : Type 0} (o : Option X) → is_some o ≡ true → (x : X) × (o ≡ Some x)
+some_value None e = absurd (false_true e)
+some_value (Some x) e = (x, refl)
+
+some_one : {X : Type 0} (o : Option X) (x y : X) → o ≡ Some x → o ≡ Some y → x ≡ y
+some_one o x y e g = cc
+
+-- words mean one thing at most
+pub means_one : (words : List Text) (a b : Meaning) → Means words a → Means words b → a ≡ b
+means_one words a b e g = some_one (meaning words) a b e g
+
+taken_by : (o : Option CommandName) (rest : List Text) → option_map_or (λ name. takes (app name) rest) o false ≡ true
+    → is_some (option_and_then (λ name. meaning_by name (matches_of (app name) rest)) o) ≡ true
+taken_by None rest e = absurd (false_true e)
+taken_by (Some name) rest e = taken_means name rest e
+
+-- words that are taken mean something
+pub taken_meaning : (words : List Text) → IsTaken words → (value : Meaning) × Means words value
+unfolding meaning is_taken
+taken_meaning [] e = absurd (false_true e)
+taken_meaning (word ∷ rest) e = some_value _ (taken_by (named word) rest e)
+
+pub none_taken : (words : List Text) → words ≡ [] → IsTaken words → ⊥
+unfolding is_taken
+none_taken words e taken = false_true (sym (ap is_taken e) ∙ taken)
+
+pub unnamed_taken : (words rest : List Text) (word : Text) → words ≡ word ∷ rest → named word ≡ None → IsTaken words → ⊥
+unfolding is_taken
+unnamed_taken words rest word e none taken =
+    false_true (sym (ap is_taken e ∙ ap (λ o. option_map_or (λ name. takes (app name) rest) o false) none) ∙ taken)
+
+module _ (words rest : List Text) (word : Text) (name : CommandName) (e : words ≡ word ∷ rest) (called : named word ≡ Some name) where
+  meaning_here : meaning words ≡ meaning_by name (matches_of (app name) rest)
+  unfolding meaning
+  meaning_here = ap meaning e ∙ ap (λ o. option_and_then (λ n. meaning_by n (matches_of (app n) rest)) o) called
+
+  taken_here : is_taken words ≡ takes (app name) rest
+  unfolding is_taken
+  taken_here = ap is_taken e ∙ ap (λ o. option_map_or (λ n. takes (app n) rest) o false) called
+
+  refused_as : (error : WordsError) → (error ≡ Usage → takes (app name) rest ≢ true) → ReadsWords words (Err error)
+  refused_as Usage h = λ taken. h refl (sym taken_here ∙ taken)
+  refused_as NoMemory h = tt
+
+  -- a refusal by the parser, which is passed up
+  pub refused_by : (error : WordsError) (r : Result Request WordsError) → IsErrAnd r (λ other. other ≡ error) → (error ≡ Usage → takes (app name) rest ≢ true) → ReadsWords words r
+  refused_by error (Ok q) is h = absurd is
+  refused_by error (Err other) is h = refused_as other (λ usage. h (sym is ∙ usage))
+
+  -- a request by the rows that the parser gave
+  pub read_by : (r : Result Request WordsError) (rows : List Row) → rows ≡ matches_of (app name) rest → IfOk r (λ q. meaning_by name rows ≡ Some (meaning_of q))
+      → (r ≡ Err Usage → meaning_by name rows ≡ None) → ReadsWords words r
+  read_by (Ok q) rows is found absent = meaning_here ∙ ap (meaning_by name) (sym is) ∙ found
+  read_by (Err Usage) rows is found absent = λ taken.
+      false_true (ap is_some (sym (absent refl) ∙ ap (meaning_by name) is) ∙ taken_means name rest (sym taken_here ∙ taken))
+  read_by (Err NoMemory) rows is found absent = tt
+
+-- ---- the words of the modes
+
+pub two_modes : (word : Text) → (accepts false modes word ≡ true) ↔ ((word ≡ codes "support") ⊎ (word ≡ codes "full"))
+two_modes word = (forth (bytes_eq (codes "support") word) (bytes_eq (codes "full") word) refl refl, back)
+  where
+    forth : (a b : Bool) → bytes_eq (codes "support") word ≡ a → bytes_eq (codes "full") word ≡ b → (a || (b || false)) ≡ true → (word ≡ codes "support") ⊎ (word ≡ codes "full")
+    forth true b e g h = inl (sym ((bytes_eq-Decides (codes "support") word).0 e))
+    forth false true e g h = inr (sym ((bytes_eq-Decides (codes "full") word).0 g))
+    forth false false e g h = absurd (false_true h)
+
+    back : (word ≡ codes "support") ⊎ (word ≡ codes "full") → accepts false modes word ≡ true
+    back (inl is) = ap (accepts false modes) is
+    back (inr is) = ap (accepts false modes) is

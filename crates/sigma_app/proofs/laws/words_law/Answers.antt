@@ -1,0 +1,6 @@
+use Rattle.sigma_app.proofs.RequestLaws.{means_one, taken_meaning, two_modes}
+use Rattle.sigma_app.proofs.RepeatLaws.{distinct_paths}
+use Rattle.sigma_app.proofs.laws.words_law.Goals as goal
+
+pub returns : goal.returns
+returns c = record { one = means_one; some = taken_meaning; modes = two_modes; twice = distinct_paths }
