@@ -1,7 +1,8 @@
 -- What a page rests on: from the first fact that the query is to the derivation, its cited lines and its evidence.
-use Rattle.std.proofs.Common.{◌≡◌, ℕ, zero, suc, ◌+◌, List, [], ◌∷◌, ◌++◌, map, take, length, nat_le, Bool, true, false, ◌&&◌, if◌then◌else◌, Option, Some, None, inl, inr, codes, refl, sym, ap, ap₂, ◌∙◌, subst, arith}
-use Rattle.std.specs.Prelude.{slice_get, MatchOption, MatchBool}
+use Rattle.std.proofs.Common.{◌≡◌, ◌≢◌, ℕ, zero, suc, ◌+◌, ◌≤◌, List, [], ◌∷◌, ◌++◌, map, take, length, nat_le, nat_eq, Bool, true, false, ◌&&◌, if◌then◌else◌, Option, Some, None, ◌⊎◌, inl, inr, codes, refl, sym, ap, ap₂, ◌∙◌, subst, arith}
+use Rattle.std.specs.Prelude.{slice_get, MatchBool}
 use Rattle.std.specs.List.{list_all}
+use Rattle.std.proofs.lemmas.Bool.{false≢true}
 use Rattle.sigma_base.specs.Lists.{Each, each_append, each_map}
 use Rattle.kif_tree.specs.declared.form.Form.{Form, out-Form}
 use Rattle.kif_tree.specs.declared.form.Form.TheVariants as form
@@ -14,9 +15,8 @@ use Rattle.kif_tree.specs.Terms.{Bytes, variables, distinct, clean}
 use Rattle.kif_tree.specs.Subst.{Filling, bind, lookup, apply}
 use Rattle.kif_tree.specs.Clauses.{Literals, is_answer, clause_variables}
 use Rattle.kif_tree.proofs.TermLaws.{clean_all, clean-Variable}
-use Rattle.sig_io.specs.Told.{body_of}
-use Rattle.kif_reader.specs.Plain.{IsPlainAtom, ReadsFacts, located, forms_of}
-use Rattle.sigma_app.proofs.AtomLaws.{fact_ground, query_rowless}
+use Rattle.kif_tree.proofs.VariableLaws.{each_distinct}
+use Rattle.kif_reader.specs.Spelling.{Lexed, SpellsForms, Spells}
 use Rattle.calculus.specs.declared.step.Step.{Step}
 use Rattle.calculus.specs.Tidy.{renaming}
 use Rattle.calculus.specs.Closed.{rowless_clause, clean_in, clean_pairs}
@@ -28,11 +28,14 @@ use Rattle.calculus.proofs.ClosedLaws.{clean-tidy}
 use Rattle.calculus.proofs.MemberLaws.{among-map}
 use Rattle.calculus.proofs.QueryLaws.{query_evidence}
 use Rattle.sigma_app.specs.declared.page.ProofLine.{ProofLine}
-use Rattle.sigma_app.specs.Words.{Asked, asked}
+use Rattle.sigma_app.specs.declared.files.Part.{Part}
+use Rattle.sigma_app.specs.Requests.{Asked, Meaning, asks, checks, gives_clauses, exports, drills, Means, is_refused}
+use Rattle.sigma_app.specs.Plain.{IsPlainAtom}
+use Rattle.sigma_app.specs.Files.{Contents, AreWhole, live_size, SpellParts}
 use Rattle.sigma_app.specs.Proof.{unit_clause, asked_clause, query_clause, values, answer_clause, lines_of}
-use Rattle.sigma_app.specs.Tool.{Is, OnBody, OnFile, IsRead, Shows, ShowsAnswer, not_built, usage, Tool}
-use Rattle.sigma_app.specs.Evidence.{input_of_fact, input_of_query, search_inputs, clauses_of, line_of, ShowSteps, Holds, one_part, IsProof, ShowsProof}
-use Rattle.kif_tree.proofs.VariableLaws.{each_distinct}
+use Rattle.sigma_app.specs.Tool.{Is, usage, not_built, live_text, many_text, live_limit, file_limit, has_option, IsPlainFact, IsPlain, Shows, ShowsAnswer, OnForms, OnTexts, OnFiles, OnBuilt, Tool}
+use Rattle.sigma_app.specs.Evidence.{input_of_fact, input_of_query, search_inputs, clauses_of, line_of, ShowSteps, Holds, IsProof, ShowsProof}
+use Rattle.sigma_app.proofs.AtomLaws.{fact_ground, query_rowless}
 use Rattle.sigma_app.proofs.ProofLaws.{renamed_values, ground_rowless, ground_values, ground_terms, clean-answer, answer-answers, bind-answer, query_clause-is, old_names, resolution, resolution-concludes, filled_ground, map-variables}
 
 -- ---- items by their numbers
@@ -104,7 +107,7 @@ rowless_query query plain =
     clean-tidy (asked_clause query)
     (ap₂ (λ (a b : Bool). a && (b && true)) (query_rowless query plain) (clean-answer true (map form.Variable (distinct (variables query))) (rowless_variables (distinct (variables query)))))
 
-rowless_inputs : (query : Form) → IsPlainAtom true query → (facts : List Located) → Each (IsPlainAtom false) (forms_of facts)
+rowless_inputs : (query : Form) → IsPlainAtom true query → (facts : List Located) → Each IsPlainFact facts
     → list_all rowless_clause (clauses_of (map input_of_fact facts ++ input_of_query query ∷ [])) ≡ true
 rowless_inputs query plain [] h = ap (λ (b : Bool). b && true) (rowless_query query plain)
 rowless_inputs query plain (fact ∷ facts) h = ap₂ (λ (a b : Bool). (a && true) && b) (ground_rowless fact.form (fact_ground fact.form h.0)) (rowless_inputs query plain facts h.1)
@@ -132,38 +135,118 @@ shown-answer terms g =
 
 -- ---- cited lines
 
-located_each : (constituent number : ℕ) (forms : List Form) → Each (λ (fact : Located). fact.place.constituent ≡ constituent) (located constituent number forms)
-located_each constituent number [] = tt
-located_each constituent number (f ∷ forms) = (refl, located_each constituent (number + 1) forms)
+forms_each : (constituent number : ℕ) (forms : List Located) (tokens : List Lexed) → SpellsForms constituent number forms tokens → Each (λ (fact : Located). fact.place.constituent ≡ constituent) forms
+forms_each constituent number [] tokens h = tt
+forms_each constituent number (fact ∷ forms) tokens h = ((h.3).constituent_is, forms_each constituent (number + 1) forms h.1 h.4)
 
-holds_at : (body : Bytes) (facts : List Located) (number : ℕ) (fact : Located) → ReadsFacts 1 body facts → nth facts number ≡ Some fact → Holds (one_part body) fact.place 1 (unit_clause fact.form)
-holds_at body facts number fact reads stands = record {
-  before = [];
-  part = record { number = 1; text = body };
-  following = [];
-  stands = refl;
-  named = sym (each_nth (λ (l : Located). l.place.constituent ≡ 1) facts number fact (subst (Each (λ (l : Located). l.place.constituent ≡ 1)) (sym reads.placed) (located_each 1 1 (forms_of facts))) stands);
-  only = tt;
-  facts = facts;
-  spelled = reads;
-  fact = fact;
-  among = among-nth facts number fact stands;
-  at = refl;
-  translated = refl;
-  first_variant = refl;
-}
+-- the part whose text spells the fact
+record Spelling (parts : List Part) (fact : Located) : Type 0 where
+  before : List Part
+  part : Part
+  following : List Part
+  stands : parts ≡ before ++ part ∷ following
+  forms : List Located
+  spelled : Spells part.number part.text forms
+  among : Among fact forms
 
-cites : (body : Bytes) (facts : List Located) (query : Form) (number : ℕ) (fact : Located) (terms : List Form) → ReadsFacts 1 body facts → nth facts number ≡ Some fact
-    → (line : ProofLine) (place : Place) → Among line (lines_of query fact terms) → line.place ≡ Some place → Holds (one_part body) place 1 line.clause
-cites body facts query number fact terms reads stands line place (inl is) at =
+among_either : (fact : Located) (xs ys : List Located) → Among fact (xs ++ ys) → Among fact xs ⊎ Among fact ys
+among_either fact [] ys h = inr h
+among_either fact (x ∷ xs) ys (inl here) = inl (inl here)
+among_either fact (x ∷ xs) ys (inr later) = further (among_either fact xs ys later)
+  where
+    further : Among fact xs ⊎ Among fact ys → Among fact (x ∷ xs) ⊎ Among fact ys
+    further (inl h) = inl (inr h)
+    further (inr h) = inr h
+
+spelling_of : (parts : List Part) (facts : List Located) (fact : Located) → SpellParts parts facts → Among fact facts → Spelling parts fact
+spelling_of [] facts fact spelled among = let nowhere : Among fact [] = subst (Among fact) spelled among in absurd nowhere
+spelling_of (part ∷ parts) facts fact spelled among = by_part (spelling_of parts spelled.1 fact spelled.4) (among_either fact spelled.0 spelled.1 (subst (Among fact) spelled.2 among))
+  where
+    by_part : (Among fact spelled.1 → Spelling parts fact) → Among fact spelled.0 ⊎ Among fact spelled.1 → Spelling (part ∷ parts) fact
+    by_part later (inl here) = record { before = []; part = part; following = parts; stands = refl; forms = spelled.0; spelled = spelled.3; among = here }
+    by_part later (inr there) =
+        let rest = later there in
+        record {
+          before = part ∷ rest.before;
+          part = rest.part;
+          following = rest.following;
+          stands = ap (λ (ps : List Part). part ∷ ps) rest.stands;
+          forms = rest.forms;
+          spelled = rest.spelled;
+          among = rest.among;
+        }
+
+each_item : {X : Type 0} (P : X → Type 0) (xs : List X) (x : X) → Each P xs → Among x xs → P x
+each_item P [] x h among = absurd among
+each_item P (y ∷ xs) x h (inl is) = subst P (sym is) h.0
+each_item P (y ∷ xs) x h (inr later) = each_item P xs x h.1 later
+
+-- the numbers of parts that are made one after the other differ
+numbers_above : (contents : Contents) (at : ℕ) (paths : List Bytes) (parts : List Part) → AreWhole contents at paths parts → Each (λ (part : Part). at ≤ part.number) parts
+numbers_above contents at [] parts h = subst (Each (λ (part : Part). at ≤ part.number)) (sym h) tt
+numbers_above contents at (path ∷ paths) [] h = absurd h
+numbers_above contents at (path ∷ paths) (part ∷ parts) h =
+    (
+      omega (arith, h.0.numbered),
+      each_map (λ (p : Part). at + 1 ≤ p.number) (λ (p : Part). at ≤ p.number) (λ p above. omega (arith, above)) parts (numbers_above contents (at + 1) paths parts h.1),
+    )
+
+others : (contents : Contents) (at : ℕ) (paths : List Bytes) (before : List Part) (part : Part) (following : List Part) → AreWhole contents at paths (before ++ part ∷ following)
+    → Each (λ (other : Part). other.number ≢ part.number) (before ++ following)
+others contents at [] before part following h = absurd (no_part before h)
+  where
+    no_part : (ps : List Part) → ps ++ part ∷ following ≡ [] → ⊥
+    no_part [] e = cc
+    no_part (p ∷ ps) e = cc
+others contents at (path ∷ paths) [] part following h =
+    each_map (λ (p : Part). at + 1 ≤ p.number) (λ (p : Part). p.number ≢ part.number)
+    (λ p above e. let numbered = h.0.numbered in omega (arith, above, e, numbered)) following (numbers_above contents (at + 1) paths following h.1)
+others contents at (path ∷ paths) (first ∷ before) part following h =
+    let above = each_item (λ (p : Part). at + 1 ≤ p.number) (before ++ part ∷ following) part (numbers_above contents (at + 1) paths (before ++ part ∷ following) h.1) (among-middle before part following) in (
+      λ e. let numbered = h.0.numbered in omega (arith, above, e, numbered),
+      others contents (at + 1) paths before part following h.1,
+    )
+  where
+    among-middle : (xs : List Part) (x : Part) (ys : List Part) → Among x (xs ++ x ∷ ys)
+    among-middle [] x ys = inl refl
+    among-middle (y ∷ xs) x ys = inr (among-middle xs x ys)
+
+holds_at : (contents : Contents) (paths : List Bytes) (parts : List Part) (facts : List Located) (fact : Located) → AreWhole contents 1 paths parts → SpellParts parts facts → Among fact facts
+    → Holds parts fact.place 1 (unit_clause fact.form)
+holds_at contents paths parts facts fact whole spelled among =
+    let at = spelling_of parts facts fact spelled among in
+    let all = at.spelled.spelled in
+    let named : fact.place.constituent ≡ at.part.number =
+    each_item (λ (l : Located). l.place.constituent ≡ at.part.number) at.forms fact (forms_each at.part.number 1 at.forms at.spelled.tokens all.spelled) at.among in
+    record {
+      before = at.before;
+      part = at.part;
+      following = at.following;
+      stands = at.stands;
+      named = sym named;
+      only =
+          subst (λ (n : ℕ). Each (λ (other : Part). other.number ≢ n) (at.before ++ at.following)) (sym named)
+          (others contents 1 paths at.before at.part at.following (subst (AreWhole contents 1 paths) at.stands whole));
+      forms = at.forms;
+      spelled = at.spelled;
+      fact = fact;
+      among = at.among;
+      at = refl;
+      translated = refl;
+      first_variant = refl;
+    }
+
+cites : (parts : List Part) (query : Form) (fact : Located) (terms : List Form) → Holds parts fact.place 1 (unit_clause fact.form)
+    → (line : ProofLine) (place : Place) → Among line (lines_of query fact terms) → line.place ≡ Some place → Holds parts place 1 line.clause
+cites parts query fact terms holds line place (inl is) at =
     let same_place : Some fact.place ≡ Some place = ap (λ (l : ProofLine). l.place) (sym is) ∙ at in
     let alike : fact.place ≡ place = cc in
-    subst (λ (l : ProofLine). Holds (one_part body) place 1 l.clause) (sym is) (subst (λ (p : Place). Holds (one_part body) p 1 (unit_clause fact.form)) alike (holds_at body facts number fact reads stands))
-cites body facts query number fact terms reads stands line place (inr (inl is)) at =
+    subst (λ (l : ProofLine). Holds parts place 1 l.clause) (sym is) (subst (λ (p : Place). Holds parts p 1 (unit_clause fact.form)) alike holds)
+cites parts query fact terms holds line place (inr (inl is)) at =
     let no_way : None ≡ Some place = ap (λ (l : ProofLine). l.place) (sym is) ∙ at in absurd (cc)
-cites body facts query number fact terms reads stands line place (inr (inr (inl is))) at =
+cites parts query fact terms holds line place (inr (inr (inl is))) at =
     let no_way : None ≡ Some place = ap (λ (l : ProofLine). l.place) (sym is) ∙ at in absurd (cc)
-cites body facts query number fact terms reads stands line place (inr (inr (inr none))) at = absurd none
+cites parts query fact terms holds line place (inr (inr (inr none))) at = absurd none
 
 -- ---- the derivation
 
@@ -205,8 +288,8 @@ module _ (facts : List Located) (query : Form) (number : ℕ) (s : List Pair) (f
   clean_steps =
       ap (λ (b : Bool). b && true) (clean_renamed 1 (lookup s) (old_names query) (each_distinct (λ name. clean false (lookup s name) ≡ true) (clause_variables (asked_clause query)) ground_each))
 
-  is_proof : (body : Bytes) → ReadsFacts 1 body facts → IsProof body facts query (values query s) (lines_of query fact (values query s))
-  is_proof body reads = record {
+  is_proof : (parts : List Part) → Each IsPlainFact facts → Holds parts fact.place 1 (unit_clause fact.form) → IsProof parts facts query (values query s) (lines_of query fact (values query s))
+  is_proof parts plain_facts holds = record {
     steps = steps_of facts query number s;
     clauses = clauses_at query fact.form s;
     last = 2;
@@ -214,65 +297,91 @@ module _ (facts : List Located) (query : Form) (number : ℕ) (s : List Pair) (f
     shown = lines_each;
     ends = refl;
     concludes = refl;
-    cited = cites body facts query number fact (values query s) reads stands;
+    cited = cites parts query fact (values query s) holds;
     proves = λ g closes.
         subst
         (λ (bindings : List (List Form)). IsEvidenceFor (map unit_of facts) (query_clause query ∷ []) bindings
         (evidence (clauses_of (search_inputs facts query)) (steps_of facts query number s) (clauses_at query fact.form s) 2 g))
         (shown-answer (values query s) g)
         (query_evidence (map unit_of facts) (query_clause query ∷ []) (clauses_of (search_inputs facts query)) (steps_of facts query number s) (clauses_at query fact.form s) derivation
-        (placed_from facts query facts (each_among facts)) (has_answer query, tt) (rowless_inputs query plain_query facts reads.spelled.plain) clean_steps
+        (placed_from facts query facts (each_among facts)) (has_answer query, tt) (rowless_inputs query plain_query facts plain_facts) clean_steps
         2 (answer_clause (values query s)) refl (ap (λ (b : Bool). b && true) (answer-answers (values query s))) g closes);
   }
 
 -- ---- the run
 
-forms_nth : (facts : List Located) (n : ℕ) (fact : Located) → nth facts n ≡ Some fact → nth (forms_of facts) n ≡ Some fact.form
-forms_nth facts n fact e = nth-map (λ (l : Located). l.form) facts n fact e
+module _ (words : List Bytes) (contents : Contents) (status : ℕ) (text : Bytes) (zero_is : status ≡ 0) where
+  other : {X : Type 0} (wanted : ℕ) → status ≡ wanted → nat_eq wanted 0 ≡ false → X
+  other wanted is h = absurd (false≢true (sym h ∙ ap (λ (n : ℕ). nat_eq n 0) (sym is ∙ zero_is)))
 
-module _ (words : List Bytes) (contents : List (Bytes × Bytes)) (status : ℕ) (text : Bytes) (zero_is : status ≡ 0) where
-  answer_shown : (asks : Asked) → asked words ≡ Some asks → (body : Bytes) → body_of contents asks.path ≡ Some body
-      → (facts : List Located) (query : Form) → IsRead asks body facts query → ShowsAnswer asks.path facts query status text → ShowsProof words contents text
-  answer_shown asks are body held facts query read shown =
+  answer_shown : (asked : Asked) → Means words (asks asked) → (parts : List Part) → AreWhole contents 1 asked.paths parts
+      → (facts : List Located) → SpellParts parts facts → (query : Form) → IsPlain asked facts query → ShowsAnswer parts facts query status text → ShowsProof words contents text
+  answer_shown asked means parts whole facts spelled query plain shown =
       let stands : nth facts shown.number ≡ Some shown.first.fact = sym (nth-get facts shown.number) ∙ shown.first.stands in
-      let plain_fact = each_nth (IsPlainAtom false) (forms_of facts) shown.number shown.first.fact.form read.facts_read.spelled.plain (forms_nth facts shown.number shown.first.fact stands) in
+      let plain_fact = each_nth IsPlainFact facts shown.number shown.first.fact plain.plain_facts stands in
+      let holds = holds_at contents asked.paths parts facts shown.first.fact whole spelled (among-nth facts shown.number shown.first.fact stands) in
       record {
-        asks = asks;
-        are = are;
-        body = body;
-        held = held;
+        asked = asked;
+        means = means;
+        parts = parts;
+        whole = whole;
         facts = facts;
+        spelled = spelled;
         query = query;
-        read = read;
+        plain = plain;
         number = shown.number;
         subst = shown.subst;
         first = shown.first;
         lines = lines_of query shown.first.fact (values query shown.subst);
         page = shown.page;
-        proof = is_proof facts query shown.number shown.subst shown.first.fact stands read.query_read.plain plain_fact shown.first.fits body read.facts_read;
+        proof = is_proof facts query shown.number shown.subst shown.first.fact stands plain.plain_query plain_fact shown.first.fits parts plain.plain_facts holds;
       }
 
-  replies_shown : (asks : Asked) → asked words ≡ Some asks → (body : Bytes) → body_of contents asks.path ≡ Some body → OnBody asks body status text → ShowsProof words contents text
-  replies_shown asks are body held (inl replies) = by_shown replies.shown
-    where
-      by_shown : Shows asks.path replies.facts replies.query status text → ShowsProof words contents text
-      by_shown (inl shown) = answer_shown asks are body held replies.facts replies.query replies.read shown
-      by_shown (inr none) = absurd (omega (arith, none.done))
-  replies_shown asks are body held (inr declines) = absurd (omega (arith, declines.done))
+  module _ (asked : Asked) (means : Means words (asks asked)) where
+    forms_shown : (parts : List Part) → AreWhole contents 1 asked.paths parts → (facts : List Located) → SpellParts parts facts → OnForms asked parts facts status text → ShowsProof words contents text
+    forms_shown parts whole facts spelled (inl replies) = by_shown replies.shown
+      where
+        by_shown : Shows parts facts replies.query status text → ShowsProof words contents text
+        by_shown (inl shown) = answer_shown asked means parts whole facts spelled replies.query replies.plain shown
+        by_shown (inr none) = other 1 none.done refl
+    forms_shown parts whole facts spelled (inr declines) = other 10 declines.is.done refl
 
-  length_shown : (asks : Asked) → asked words ≡ Some asks → (body : Bytes) → body_of contents asks.path ≡ Some body
-      → (fits : Bool) → MatchBool fits (OnBody asks body status text) (Is 10 not_built status text) → ShowsProof words contents text
-  length_shown asks are body held true on_body = replies_shown asks are body held on_body
-  length_shown asks are body held false too_long = absurd (omega (arith, too_long.done))
+    texts_shown : (parts : List Part) → AreWhole contents 1 asked.paths parts → OnTexts asked parts status text → ShowsProof words contents text
+    texts_shown parts whole (inl fault) = other 5 fault.faulty.is.done refl
+    texts_shown parts whole (inr spelled) = forms_shown parts whole spelled.facts spelled.spelled spelled.on_forms
 
-  file_shown : (asks : Asked) → asked words ≡ Some asks → (found : Option Bytes) → body_of contents asks.path ≡ found → OnFile asks found status text → ShowsProof words contents text
-  file_shown asks are None held is = absurd (omega (arith, is.done))
-  file_shown asks are (Some body) held is = length_shown asks are body held (nat_le (length body) 8388608) is
+    parts_shown : (parts : List Part) → AreWhole contents 1 asked.paths parts → (fits : Bool)
+        → MatchBool fits (OnTexts asked parts status text) (Is 6 (live_text (live_size parts)) status text) → ShowsProof words contents text
+    parts_shown parts whole true h = texts_shown parts whole h
+    parts_shown parts whole false h = other 6 h.done refl
 
-  words_shown : (o : Option Asked) → asked words ≡ o → MatchOption o (Is 2 usage status text) (λ asks. OnFile asks (body_of contents asks.path) status text) → ShowsProof words contents text
-  words_shown None are is = absurd (omega (arith, is.done))
-  words_shown (Some asks) are is = file_shown asks are (body_of contents asks.path) refl is
+    files_shown : OnFiles asked contents status text → ShowsProof words contents text
+    files_shown (inl absent) = other 3 absent.is.done refl
+    files_shown (inr (inl long)) = other 6 long.is.done refl
+    files_shown (inr (inr found)) = parts_shown found.parts found.whole (nat_le (live_size found.parts) live_limit) found.on_parts
+
+    count_shown : (few : Bool) → MatchBool few (OnFiles asked contents status text) (Is 6 (many_text (length asked.paths)) status text) → ShowsProof words contents text
+    count_shown true h = files_shown h
+    count_shown false h = other 6 h.done refl
+
+    asked_shown : (option : Bool)
+        → MatchBool option (Is 10 not_built status text) (MatchBool (nat_le (length asked.paths) file_limit) (OnFiles asked contents status text) (Is 6 (many_text (length asked.paths)) status text))
+        → ShowsProof words contents text
+    asked_shown true h = other 10 h.done refl
+    asked_shown false h = count_shown (nat_le (length asked.paths) file_limit) h
+
+  built_shown : (meaning : Meaning) → Means words meaning → OnBuilt meaning contents status text → ShowsProof words contents text
+  built_shown (asks asked) means h = asked_shown asked means (has_option asked) h
+  built_shown (checks paths) means h = other 10 h.done refl
+  built_shown (gives_clauses paths) means h = other 10 h.done refl
+  built_shown (exports paths) means h = other 10 h.done refl
+  built_shown (drills size) means h = other 10 h.done refl
+
+  meaning_shown : (meaning : Meaning) → Means words meaning → (refused : Bool) → MatchBool refused (Is 2 usage status text) (OnBuilt meaning contents status text) → ShowsProof words contents text
+  meaning_shown meaning means true h = other 2 h.done refl
+  meaning_shown meaning means false h = built_shown meaning means h
 
   -- what the tool shows has a proof
   pub shows_proof : Tool words contents status text → ShowsProof words contents text
-  shows_proof tool = words_shown (asked words) refl tool
+  shows_proof (inl has) = meaning_shown has.meaning has.means (is_refused has.meaning) has.on_meaning
+  shows_proof (inr none) = other 2 none.is.done refl

@@ -1,6 +1,7 @@
 -- Why the tool gives one status and one text for the same words and files.
-use Rattle.std.proofs.Common.{◌≡◌, ℕ, ◌<◌, List, [], ◌∷◌, ◌++◌, length, Bool, true, false, Option, Some, None, nat_le, codes, inl, inr, sym, ap, ap₂, ◌∙◌, subst, arith}
-use Rattle.std.specs.Prelude.{slice_get, MatchOption, MatchBool}
+use Rattle.std.proofs.Common.{◌≡◌, ℕ, ◌+◌, ◌<◌, ◌≤◌, List, [], ◌∷◌, ◌++◌, length, nat_le, Bool, true, false, Option, Some, None, codes, ◌⊎◌, inl, inr, sym, ap, ap₂, ◌∙◌, subst, arith}
+use Rattle.std.specs.Prelude.{slice_get, MatchBool}
+use Rattle.std.proofs.lemmas.Bool.{false≢true}
 use Rattle.std.proofs.lemmas.Bool.Decides.{nat_tests}
 use Rattle.sigma_base.specs.Lists.{Each, each_map, map_each}
 use Rattle.kif_tree.specs.declared.form.Form.{Form}
@@ -11,16 +12,22 @@ use Rattle.kif_tree.specs.Subst.{lookup}
 use Rattle.kif_tree.proofs.SubstLaws.{Agree, agree_back}
 use Rattle.kif_tree.proofs.VariableLaws.{each_distinct}
 use Rattle.sig_io.specs.Told.{body_of}
-use Rattle.kif_reader.specs.Plain.{ReadsFacts, located, forms_of}
-use Rattle.kif_reader.proofs.PlainLaws.{facts_are_one, goal_is_one}
-use Rattle.sigma_app.specs.Words.{Asked, asked}
+use Rattle.kif_reader.specs.Spelling.{Spells}
+use Rattle.kif_reader.proofs.ReadingIsOneLaws.{spells_unique}
+use Rattle.kif_reader.specs.declared.bytes.Spot.{Spot}
+use Rattle.kif_reader.specs.declared.kinds.ReadError.{ReadError}
+use Rattle.kif_reader.specs.declared.kinds.ReadError.TheVariants as unread
+use Rattle.kif_reader.proofs.OneFaultLaws.{spells_no_fault, fault_unique}
+use Rattle.sigma_app.specs.declared.files.Part.{Part}
+use Rattle.sigma_app.specs.Requests.{Asked, Meaning, asks, checks, gives_clauses, exports, drills, IsTaken, is_refused}
+use Rattle.sigma_app.proofs.RequestLaws.{means_one, taken_means}
+use Rattle.sigma_app.specs.Files.{Contents, byte_limit, IsWhole, AreWhole, IsReached, live_size, SpellParts}
 use Rattle.sigma_app.specs.Matching.{Fits, IsFirstMatch, value_pair, binding}
 use Rattle.sigma_app.specs.Proof.{values, lines_of}
 use Rattle.sigma_app.specs.Page.{answer_text, end_text}
-use Rattle.sigma_app.specs.Tool.{Is, Shows, OnBody, OnFile, Tool, found_page, load_names, usage, not_built}
-
-abbrev SameOutcome : ℕ → ℕ → Bytes → Bytes → Type 0
-SameOutcome status other text page = (status ≡ other) × (text ≡ page)
+use Rattle.sigma_app.specs.Files.{load_names}
+use Rattle.sigma_app.specs.Tool.{Is, usage, not_built, live_text, many_text, live_limit, file_limit, fault_in, syntax_text, has_option, found_page, Shows, SpellsQuery, IsPlain, OnForms, IsFaulty, OnTexts, OnParts, OnFiles, OnAsked, OnBuilt, HasMeaning, Tool}
+use Rattle.sigma_app.specs.Laws.{SameOutcome}
 
 is_one : (wanted : ℕ) (shown : Bytes) (status other : ℕ) (text page : Bytes) → Is wanted shown status text → Is wanted shown other page → SameOutcome status other text page
 is_one wanted shown status other text page a b = (a.done ∙ sym b.done, a.page_is ∙ sym b.page_is)
@@ -58,64 +65,247 @@ first_fact query facts m n s t a b =
     let at : Some a.fact ≡ Some b.fact = sym a.stands ∙ ap (λ (k : ℕ). slice_get facts k) (first_number query facts m n s t a b) ∙ b.stands in
     cc
 
-page_one : (path : Bytes) (query : Form) (fact other : Located) (s t : List Pair) → fact ≡ other → binding query s ≡ binding query t → values query s ≡ values query t
-    → found_page path query fact s ≡ found_page path query other t
-page_one path query fact other s t f b v =
+page_one : (parts : List Part) (query : Form) (fact other : Located) (s t : List Pair) → fact ≡ other → binding query s ≡ binding query t → values query s ≡ values query t
+    → found_page parts query fact s ≡ found_page parts query other t
+page_one parts query fact other s t f b v =
     ap (λ (text : Bytes). text ++ end_text (codes "enough") 1)
-    (ap₂ (answer_text (load_names path) 1) b (ap (λ (l : Located). lines_of query l (values query s)) f ∙ ap (lines_of query other) v))
+    (ap₂ (answer_text (load_names parts) 1) b (ap (λ (l : Located). lines_of query l (values query s)) f ∙ ap (lines_of query other) v))
 
 -- ---- what is shown
 
-shows_one : (path : Bytes) (facts : List Located) (query : Form) (status other : ℕ) (text page : Bytes)
-    → Shows path facts query status text → Shows path facts query other page → SameOutcome status other text page
-shows_one path facts query status other text page (inl a) (inl b) =
+shows_one : (parts : List Part) (facts : List Located) (query : Form) (status other : ℕ) (text page : Bytes)
+    → Shows parts facts query status text → Shows parts facts query other page → SameOutcome status other text page
+shows_one parts facts query status other text page (inl a) (inl b) =
     let fact = first_fact query facts a.number b.number a.subst b.subst a.first b.first in
     let fits : Fits b.subst query a.first.fact.form = b.first.fits ∙ sym (ap (λ (l : Located). l.form) fact) in (
       a.done ∙ sym b.done,
       a.page
-          ∙ page_one path query a.first.fact b.first.fact a.subst b.subst fact
+          ∙ page_one parts query a.first.fact b.first.fact a.subst b.subst fact
           (same_binding query a.first.fact.form a.subst b.subst a.first.fits fits)
           (same_values query a.first.fact.form a.subst b.subst a.first.fits fits)
           ∙ sym b.page,
     )
-shows_one path facts query status other text page (inl a) (inr b) = absurd (b.none a.number a.first.fact a.first.stands a.subst a.first.fits)
-shows_one path facts query status other text page (inr a) (inl b) = absurd (a.none b.number b.first.fact b.first.stands b.subst b.first.fits)
-shows_one path facts query status other text page (inr a) (inr b) = (a.done ∙ sym b.done, a.page ∙ sym b.page)
+shows_one parts facts query status other text page (inl a) (inr b) = absurd (b.none a.number a.first.fact a.first.stands a.subst a.first.fits)
+shows_one parts facts query status other text page (inr a) (inl b) = absurd (a.none b.number b.first.fact b.first.stands b.subst b.first.fits)
+shows_one parts facts query status other text page (inr a) (inr b) = (a.done ∙ sym b.done, a.page ∙ sym b.page)
 
-facts_one : (body : Bytes) (facts more : List Located) → ReadsFacts 1 body facts → ReadsFacts 1 body more → facts ≡ more
-facts_one body facts more a b =
-    a.placed ∙ ap (located 1 1) (facts_are_one body (forms_of facts) (forms_of more) a.spelled b.spelled) ∙ sym b.placed
+query_one : (text : Bytes) (query other : Form) → SpellsQuery text query → SpellsQuery text other → query ≡ other
+query_one text query other a b =
+    let alike : a.located ∷ [] ≡ b.located ∷ [] = spells_unique 0 text (a.located ∷ []) (b.located ∷ []) a.spelled b.spelled in
+    let same : a.located ≡ b.located = cc in
+    sym a.is ∙ ap (λ (l : Located). l.form) same ∙ b.is
 
-body_one : (asks : Asked) (body : Bytes) (status other : ℕ) (text page : Bytes) → OnBody asks body status text → OnBody asks body other page → SameOutcome status other text page
-body_one asks body status other text page (inl a) (inl b) =
-    let facts = facts_one body a.facts b.facts a.read.facts_read b.read.facts_read in
-    let query = goal_is_one asks.query a.query b.query a.read.query_read b.read.query_read in
-    shows_one asks.path b.facts b.query status other text page (at_facts facts (at_query query a.shown)) b.shown
+forms_one : (asked : Asked) (parts : List Part) (facts : List Located) (status other : ℕ) (text page : Bytes)
+    → OnForms asked parts facts status text → OnForms asked parts facts other page → SameOutcome status other text page
+forms_one asked parts facts status other text page (inl a) (inl b) =
+    shows_one parts facts b.query status other text page
+    (subst (λ (q : Form). Shows parts facts q status text) (query_one asked.query a.query b.query a.plain.spelled b.plain.spelled) a.shown) b.shown
+forms_one asked parts facts status other text page (inl a) (inr b) = absurd (b.not_plain a.query a.plain)
+forms_one asked parts facts status other text page (inr a) (inl b) = absurd (a.not_plain b.query b.plain)
+forms_one asked parts facts status other text page (inr a) (inr b) = is_one 10 not_built status other text page a.is b.is
+
+-- ---- the texts
+
+parts_one : (parts : List Part) (facts more : List Located) → SpellParts parts facts → SpellParts parts more → facts ≡ more
+parts_one [] facts more a b = a ∙ sym b
+parts_one (part ∷ parts) facts more a b =
+    a.2 ∙ (λ i. spells_unique part.number part.text a.0 b.0 a.3 b.3 i ++ parts_one parts a.1 b.1 a.4 b.4 i) ∙ sym b.2
+
+no_memory : (error : ReadError) (code : ℕ) (spot : Spot) → fault_in error ≡ Some (code, spot) → error ≡ unread.NoMemory → ⊥
+no_memory error code spot at is = let no_way : None ≡ Some (code, spot) = sym (ap fault_in is) ∙ at in cc
+
+faulty_spelled : (part : Part) (status : ℕ) (text : Bytes) (forms : List Located) → IsFaulty part status text → Spells part.number part.text forms → ⊥
+faulty_spelled part status text forms faulty spells = spells_no_fault part.number part.text forms faulty.error spells faulty.fault (no_memory faulty.error faulty.code faulty.spot faulty.at)
+
+faulty_one : (part : Part) (status other : ℕ) (text page : Bytes) → IsFaulty part status text → IsFaulty part other page → SameOutcome status other text page
+faulty_one part status other text page a b =
+    let same : a.error ≡ b.error =
+    fault_unique part.number part.text a.error b.error a.fault b.fault (no_memory a.error a.code a.spot a.at) (no_memory b.error b.code b.spot b.at) in
+    let at : Some (a.code, a.spot) ≡ Some (b.code, b.spot) = sym a.at ∙ ap fault_in same ∙ b.at in
+    let pair : (a.code, a.spot) ≡ (b.code, b.spot) = cc in
+    let shown : syntax_text part.name a.code a.spot ≡ syntax_text part.name b.code b.spot = ap (λ (p : ℕ × Spot). syntax_text part.name p.0 p.1) pair in
+    (a.is.done ∙ sym b.is.done, a.is.page_is ∙ shown ∙ sym b.is.page_is)
+
+-- the part where the spelled ones end is one
+record Stop (earlier : List Part) (part : Part) (later : List Part) : Type 0 where
+  forms : List Located
+  spelled : SpellParts earlier forms
+  status : ℕ
+  text : Bytes
+  faulty : IsFaulty part status text
+
+heads : (first second : Part) (xs ys : List Part) → first ∷ xs ≡ second ∷ ys → (first ≡ second) × (xs ≡ ys)
+heads first second xs ys e = (cc, cc)
+
+stop_one : (earlier before : List Part) (part other : Part) (later following : List Part) → Stop earlier part later → Stop before other following
+    → earlier ++ part ∷ later ≡ before ++ other ∷ following → part ≡ other
+stop_one [] [] part other later following a b e = (heads part other later following e).0
+stop_one [] (first ∷ before) part other later following a b e =
+    let same = (heads part first later (before ++ other ∷ following) e).0 in
+    absurd (faulty_spelled first a.status a.text b.spelled.0 (subst (λ (p : Part). IsFaulty p a.status a.text) same a.faulty) b.spelled.3)
+stop_one (first ∷ earlier) [] part other later following a b e =
+    let same = (heads first other (earlier ++ part ∷ later) following e).0 in
+    absurd (faulty_spelled first b.status b.text a.spelled.0 (subst (λ (p : Part). IsFaulty p b.status b.text) (sym same) b.faulty) a.spelled.3)
+stop_one (first ∷ earlier) (second ∷ before) part other later following a b e =
+    stop_one earlier before part other later following
+    (record { forms = a.spelled.1; spelled = a.spelled.4; status = a.status; text = a.text; faulty = a.faulty })
+    (record { forms = b.spelled.1; spelled = b.spelled.4; status = b.status; text = b.text; faulty = b.faulty })
+    (heads first second (earlier ++ part ∷ later) (before ++ other ∷ following) e).1
+
+spelled_at : (earlier : List Part) (part : Part) (later : List Part) (facts : List Located) → SpellParts (earlier ++ part ∷ later) facts → (mine : List Located) × Spells part.number part.text mine
+spelled_at [] part later facts h = (h.0, h.3)
+spelled_at (first ∷ earlier) part later facts h = spelled_at earlier part later h.1 h.4
+
+texts_one : (asked : Asked) (parts : List Part) (status other : ℕ) (text page : Bytes) → OnTexts asked parts status text → OnTexts asked parts other page → SameOutcome status other text page
+texts_one asked parts status other text page (inl a) (inl b) =
+    let same =
+    stop_one a.earlier b.earlier a.part b.part a.later b.later
+    (record { forms = a.forms; spelled = a.spelled; status = status; text = text; faulty = a.faulty })
+    (record { forms = b.forms; spelled = b.spelled; status = other; text = page; faulty = b.faulty }) (sym a.stands ∙ b.stands) in
+    faulty_one b.part status other text page (subst (λ (p : Part). IsFaulty p status text) same a.faulty) b.faulty
+texts_one asked parts status other text page (inl a) (inr b) =
+    let mine = spelled_at a.earlier a.part a.later b.facts (subst (λ (ps : List Part). SpellParts ps b.facts) a.stands b.spelled) in absurd (faulty_spelled a.part status text mine.0 a.faulty mine.1)
+texts_one asked parts status other text page (inr a) (inl b) =
+    let mine = spelled_at b.earlier b.part b.later a.facts (subst (λ (ps : List Part). SpellParts ps a.facts) b.stands a.spelled) in absurd (faulty_spelled b.part other page mine.0 b.faulty mine.1)
+texts_one asked parts status other text page (inr a) (inr b) =
+    forms_one asked parts b.facts status other text page
+    (subst (λ (fs : List Located). OnForms asked parts fs status text) (parts_one parts a.facts b.facts a.spelled b.spelled) a.on_forms) b.on_forms
+
+size_one : (asked : Asked) (parts : List Part) (status other : ℕ) (text page : Bytes) → OnParts asked parts status text → OnParts asked parts other page → SameOutcome status other text page
+size_one asked parts status other text page a b = by_size (nat_le (live_size parts) live_limit) a b
   where
-    at_query : {q p : Form} {fs : List Located} → q ≡ p → Shows asks.path fs q status text → Shows asks.path fs p status text
-    at_query {fs = fs} e h = subst (λ (q : Form). Shows asks.path fs q status text) e h
+    by_size : (fits : Bool) → MatchBool fits (OnTexts asked parts status text) (Is 6 (live_text (live_size parts)) status text)
+        → MatchBool fits (OnTexts asked parts other page) (Is 6 (live_text (live_size parts)) other page) → SameOutcome status other text page
+    by_size true x y = texts_one asked parts status other text page x y
+    by_size false x y = is_one 6 (live_text (live_size parts)) status other text page x y
 
-    at_facts : {fs gs : List Located} {q : Form} → fs ≡ gs → Shows asks.path fs q status text → Shows asks.path gs q status text
-    at_facts {q = q} e h = subst (λ (fs : List Located). Shows asks.path fs q status text) e h
-body_one asks body status other text page (inl a) (inr b) = absurd (b.unread a.facts a.query a.read)
-body_one asks body status other text page (inr a) (inl b) = absurd (a.unread b.facts b.query b.read)
-body_one asks body status other text page (inr a) (inr b) = (a.done ∙ sym b.done, a.page ∙ sym b.page)
+-- ---- the files
 
-file_one : (asks : Asked) (body : Option Bytes) (status other : ℕ) (text page : Bytes) → OnFile asks body status text → OnFile asks body other page → SameOutcome status other text page
-file_one asks None status other text page a b = is_one 3 _ status other text page a b
-file_one asks (Some body) status other text page a b = by_length (nat_le (length body) 8388608) a b
+some_same : (a b : Bytes) → Some a ≡ Some b → a ≡ b
+some_same a b e = cc
+
+whole_one : (contents : Contents) (at : ℕ) (paths : List Bytes) (parts more : List Part) → AreWhole contents at paths parts → AreWhole contents at paths more → parts ≡ more
+whole_one contents at [] parts more a b = a ∙ sym b
+whole_one contents at (path ∷ paths) [] more a b = absurd a
+whole_one contents at (path ∷ paths) (part ∷ parts) [] a b = absurd b
+whole_one contents at (path ∷ paths) (part ∷ parts) (other ∷ more) a b =
+    let number : part.number ≡ other.number = a.0.numbered ∙ sym b.0.numbered in
+    let name : part.name ≡ other.name = a.0.named ∙ sym b.0.named in
+    let text : part.text ≡ other.text = some_same part.text other.text (sym a.0.held ∙ b.0.held) in
+    let same : part ≡ other = λ i. record { number = number i; name = name i; text = text i } in
+    λ i. same i ∷ whole_one contents (at + 1) paths parts more a.1 b.1 i
+
+-- a path whose file isn't found whole
+abbrev IsMissed : Contents → Bytes → Type 0
+IsMissed contents path = (part : Part) (at : ℕ) → IsWhole contents path at part → ⊥
+
+path_heads : (first second : Bytes) (xs ys : List Bytes) → first ∷ xs ≡ second ∷ ys → (first ≡ second) × (xs ≡ ys)
+path_heads first second xs ys e = (cc, cc)
+
+reached_one : (contents : Contents) (at : ℕ) (earlier before : List Bytes) (path other : Bytes) (later following : List Bytes) (parts more : List Part)
+    → AreWhole contents at earlier parts → AreWhole contents at before more → IsMissed contents path → IsMissed contents other
+    → earlier ++ path ∷ later ≡ before ++ other ∷ following → path ≡ other
+reached_one contents at [] [] path other later following parts more a b m n e = (path_heads path other later following e).0
+reached_one contents at [] (first ∷ before) path other later following parts [] a b m n e = absurd b
+reached_one contents at [] (first ∷ before) path other later following parts (p ∷ more) a b m n e =
+    let same = (path_heads path first later (before ++ other ∷ following) e).0 in absurd (m p at (subst (λ (x : Bytes). IsWhole contents x at p) (sym same) b.0))
+reached_one contents at (first ∷ earlier) [] path other later following [] more a b m n e = absurd a
+reached_one contents at (first ∷ earlier) [] path other later following (p ∷ parts) more a b m n e =
+    let same = (path_heads first other (earlier ++ path ∷ later) following e).0 in absurd (n p at (subst (λ (x : Bytes). IsWhole contents x at p) same a.0))
+reached_one contents at (first ∷ earlier) (second ∷ before) path other later following [] more a b m n e = absurd a
+reached_one contents at (first ∷ earlier) (second ∷ before) path other later following (p ∷ parts) [] a b m n e = absurd b
+reached_one contents at (first ∷ earlier) (second ∷ before) path other later following (p ∷ parts) (q ∷ more) a b m n e =
+    reached_one contents (at + 1) earlier before path other later following parts more a.1 b.1 m n (path_heads first second (earlier ++ path ∷ later) (before ++ other ∷ following) e).1
+
+stopped_one : (contents : Contents) (paths : List Bytes) (path other : Bytes) → IsReached contents paths path → IsReached contents paths other → IsMissed contents path → IsMissed contents other
+    → path ≡ other
+stopped_one contents paths path other a b m n = reached_one contents 1 a.earlier b.earlier path other a.later b.later a.parts b.parts a.whole b.whole m n (sym a.stands ∙ b.stands)
+
+absent_missed : (contents : Contents) (path : Bytes) → body_of contents path ≡ None → IsMissed contents path
+absent_missed contents path e part at whole = let no_way : None ≡ Some part.text = sym e ∙ whole.held in cc
+
+within_limit : (n m : ℕ) → n ≡ m → n ≤ byte_limit → nat_le m byte_limit ≡ true
+within_limit n m e h = let here : m ≤ byte_limit = omega (arith, e, h) in grind (arith, nat_tests)
+
+long_missed : (contents : Contents) (path body : Bytes) → body_of contents path ≡ Some body → nat_le (length body) byte_limit ≡ false → IsMissed contents path
+long_missed contents path body e long part at whole =
+    false≢true (sym long ∙ within_limit (length part.text) (length body) (ap length (some_same part.text body (sym whole.held ∙ e))) whole.short)
+
+-- all files are found, or one isn't
+missed_whole : (contents : Contents) (paths : List Bytes) (path : Bytes) (parts : List Part) → IsReached contents paths path → IsMissed contents path → AreWhole contents 1 paths parts → ⊥
+missed_whole contents paths path parts reached missed whole = whole_at 1 reached.earlier parts (subst (λ (ps : List Bytes). AreWhole contents 1 ps parts) reached.stands whole)
   where
-    by_length : (fits : Bool) → MatchBool fits (OnBody asks body status text) (Is 10 not_built status text)
-        → MatchBool fits (OnBody asks body other page) (Is 10 not_built other page) → SameOutcome status other text page
-    by_length true x y = body_one asks body status other text page x y
-    by_length false x y = is_one 10 not_built status other text page x y
+    whole_at : (at : ℕ) (earlier : List Bytes) (ps : List Part) → AreWhole contents at (earlier ++ path ∷ reached.later) ps → ⊥
+    whole_at at [] [] h = h
+    whole_at at [] (p ∷ ps) h = missed p at h.0
+    whole_at at (first ∷ earlier) [] h = h
+    whole_at at (first ∷ earlier) (p ∷ ps) h = whole_at (at + 1) earlier ps h.1
 
-pub tool_one : (words : List Bytes) (contents : List (Bytes × Bytes)) (status other : ℕ) (text page : Bytes)
-    → Tool words contents status text → Tool words contents other page → SameOutcome status other text page
-tool_one words contents status other text page a b = by_words (asked words) a b
+named_one : (wanted : ℕ) (shown : Bytes → Bytes) (path named : Bytes) (status other : ℕ) (text page : Bytes) → path ≡ named → Is wanted (shown path) status text → Is wanted (shown named) other page
+    → SameOutcome status other text page
+named_one wanted shown path named status other text page e a b = (a.done ∙ sym b.done, a.page_is ∙ ap shown e ∙ sym b.page_is)
+
+files_one : (asked : Asked) (contents : Contents) (status other : ℕ) (text page : Bytes) → OnFiles asked contents status text → OnFiles asked contents other page → SameOutcome status other text page
+files_one asked contents status other text page (inl a) (inl b) =
+    named_one 3 _ a.path b.path status other text page
+    (stopped_one contents asked.paths a.path b.path a.reached b.reached (absent_missed contents a.path a.absent) (absent_missed contents b.path b.absent)) a.is b.is
+files_one asked contents status other text page (inl a) (inr (inl b)) =
+    let same = stopped_one contents asked.paths a.path b.path a.reached b.reached (absent_missed contents a.path a.absent) (long_missed contents b.path b.body b.held b.long) in
+    let no_way : None ≡ Some b.body = sym a.absent ∙ ap (body_of contents) same ∙ b.held in absurd (cc)
+files_one asked contents status other text page (inl a) (inr (inr b)) = absurd (missed_whole contents asked.paths a.path b.parts a.reached (absent_missed contents a.path a.absent) b.whole)
+files_one asked contents status other text page (inr (inl a)) (inl b) =
+    let same = stopped_one contents asked.paths b.path a.path b.reached a.reached (absent_missed contents b.path b.absent) (long_missed contents a.path a.body a.held a.long) in
+    let no_way : None ≡ Some a.body = sym b.absent ∙ ap (body_of contents) same ∙ a.held in absurd (cc)
+files_one asked contents status other text page (inr (inl a)) (inr (inl b)) =
+    named_one 6 _ a.path b.path status other text page
+    (stopped_one contents asked.paths a.path b.path a.reached b.reached (long_missed contents a.path a.body a.held a.long) (long_missed contents b.path b.body b.held b.long)) a.is b.is
+files_one asked contents status other text page (inr (inl a)) (inr (inr b)) = absurd (missed_whole contents asked.paths a.path b.parts a.reached (long_missed contents a.path a.body a.held a.long) b.whole)
+files_one asked contents status other text page (inr (inr a)) (inl b) = absurd (missed_whole contents asked.paths b.path a.parts b.reached (absent_missed contents b.path b.absent) a.whole)
+files_one asked contents status other text page (inr (inr a)) (inr (inl b)) = absurd (missed_whole contents asked.paths b.path a.parts b.reached (long_missed contents b.path b.body b.held b.long) a.whole)
+files_one asked contents status other text page (inr (inr a)) (inr (inr b)) =
+    size_one asked b.parts status other text page
+    (subst (λ (ps : List Part). OnParts asked ps status text) (whole_one contents 1 asked.paths a.parts b.parts a.whole b.whole) a.on_parts) b.on_parts
+
+-- ---- the words
+
+asked_one : (asked : Asked) (contents : Contents) (status other : ℕ) (text page : Bytes) → OnAsked asked contents status text → OnAsked asked contents other page → SameOutcome status other text page
+asked_one asked contents status other text page a b = by_option (has_option asked) a b
   where
-    by_words : (asks : Option Asked)
-        → MatchOption asks (Is 2 usage status text) (λ asks. OnFile asks (body_of contents asks.path) status text)
-        → MatchOption asks (Is 2 usage other page) (λ asks. OnFile asks (body_of contents asks.path) other page) → SameOutcome status other text page
-    by_words None x y = is_one 2 usage status other text page x y
-    by_words (Some asks) x y = file_one asks (body_of contents asks.path) status other text page x y
+    by_count : (few : Bool) → MatchBool few (OnFiles asked contents status text) (Is 6 (many_text (length asked.paths)) status text)
+        → MatchBool few (OnFiles asked contents other page) (Is 6 (many_text (length asked.paths)) other page) → SameOutcome status other text page
+    by_count true x y = files_one asked contents status other text page x y
+    by_count false x y = is_one 6 _ status other text page x y
+
+    by_option : (option : Bool)
+        → MatchBool option (Is 10 not_built status text) (MatchBool (nat_le (length asked.paths) file_limit) (OnFiles asked contents status text) (Is 6 (many_text (length asked.paths)) status text))
+        → MatchBool option (Is 10 not_built other page) (MatchBool (nat_le (length asked.paths) file_limit) (OnFiles asked contents other page) (Is 6 (many_text (length asked.paths)) other page))
+        → SameOutcome status other text page
+    by_option true x y = is_one 10 not_built status other text page x y
+    by_option false x y = by_count (nat_le (length asked.paths) file_limit) x y
+
+built_one : (meaning : Meaning) (contents : Contents) (status other : ℕ) (text page : Bytes) → OnBuilt meaning contents status text → OnBuilt meaning contents other page → SameOutcome status other text page
+built_one (asks asked) contents status other text page a b = asked_one asked contents status other text page a b
+built_one (checks paths) contents status other text page a b = is_one 10 not_built status other text page a b
+built_one (gives_clauses paths) contents status other text page a b = is_one 10 not_built status other text page a b
+built_one (exports paths) contents status other text page a b = is_one 10 not_built status other text page a b
+built_one (drills size) contents status other text page a b = is_one 10 not_built status other text page a b
+
+abbrev Judged : Bool → Meaning → Contents → ℕ → Bytes → Type 0
+Judged refused meaning contents status text = MatchBool refused (Is 2 usage status text) (OnBuilt meaning contents status text)
+
+meaning_one : (meaning : Meaning) (contents : Contents) (status other : ℕ) (text page : Bytes) (refused : Bool)
+    → Judged refused meaning contents status text → Judged refused meaning contents other page → SameOutcome status other text page
+meaning_one meaning contents status other text page true a b = is_one 2 usage status other text page a b
+meaning_one meaning contents status other text page false a b = built_one meaning contents status other text page a b
+
+has_one : (words : List Bytes) (contents : Contents) (status other : ℕ) (text page : Bytes) → HasMeaning words contents status text → HasMeaning words contents other page → SameOutcome status other text page
+has_one words contents status other text page a b =
+    let same = means_one words a.meaning b.meaning a.means b.means in
+    meaning_one b.meaning contents status other text page (is_refused b.meaning) (subst (λ (m : Meaning). Judged (is_refused m) m contents status text) same a.on_meaning) b.on_meaning
+
+pub tool_one : (words : List Bytes) (contents : Contents) (status other : ℕ) (text page : Bytes)
+    → Tool words contents status text → Tool words contents other page → SameOutcome status other text page ⊎ ((IsTaken words → ⊥) × (Is 2 usage status text ⊎ Is 2 usage other page))
+tool_one words contents status other text page (inl a) (inl b) = inl (has_one words contents status other text page a b)
+tool_one words contents status other text page (inl a) (inr b) = inr (b.not_taken, inr b.is)
+tool_one words contents status other text page (inr a) (inl b) = inr (a.not_taken, inl a.is)
+tool_one words contents status other text page (inr a) (inr b) = inl (is_one 2 usage status other text page a.is b.is)

@@ -18,6 +18,4 @@ pub use laws::{one_outcome_law, plain_atom_law, words_law};
 pub use tool::run_tool;
 
 #[cfg(test)]
-mod tests;
-#[cfg(test)]
 mod tests_requests;
