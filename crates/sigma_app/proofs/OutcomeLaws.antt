@@ -26,7 +26,7 @@ use Rattle.sigma_app.specs.Matching.{Fits, IsFirstMatch, value_pair, binding}
 use Rattle.sigma_app.specs.Proof.{values, lines_of}
 use Rattle.sigma_app.specs.Page.{answer_text, end_text}
 use Rattle.sigma_app.specs.Files.{load_names}
-use Rattle.sigma_app.specs.Tool.{Is, usage, not_built, live_text, many_text, live_limit, file_limit, fault_in, syntax_text, has_option, found_page, Shows, SpellsQuery, IsPlain, OnForms, IsFaulty, OnTexts, OnParts, OnFiles, OnAsked, OnBuilt, HasMeaning, Tool}
+use Rattle.sigma_app.specs.Tool.{Is, usage, not_built, absent_text, long_text, live_text, many_text, live_limit, file_limit, fault_in, syntax_text, has_option, found_page, Shows, SpellsQuery, IsPlain, OnForms, IsFaulty, OnTexts, OnParts, OnFiles, OnAsked, OnBuilt, HasMeaning, Tool}
 use Rattle.sigma_app.specs.Laws.{SameOutcome}
 
 is_one : (wanted : ℕ) (shown : Bytes) (status other : ℕ) (text page : Bytes) → Is wanted shown status text → Is wanted shown other page → SameOutcome status other text page
@@ -247,7 +247,7 @@ named_one wanted shown path named status other text page e a b = (a.done ∙ sym
 
 files_one : (asked : Asked) (contents : Contents) (status other : ℕ) (text page : Bytes) → OnFiles asked contents status text → OnFiles asked contents other page → SameOutcome status other text page
 files_one asked contents status other text page (inl a) (inl b) =
-    named_one 3 _ a.path b.path status other text page
+    named_one 3 absent_text a.path b.path status other text page
     (stopped_one contents asked.paths a.path b.path a.reached b.reached (absent_missed contents a.path a.absent) (absent_missed contents b.path b.absent)) a.is b.is
 files_one asked contents status other text page (inl a) (inr (inl b)) =
     let same = stopped_one contents asked.paths a.path b.path a.reached b.reached (absent_missed contents a.path a.absent) (long_missed contents b.path b.body b.held b.long) in
@@ -257,7 +257,7 @@ files_one asked contents status other text page (inr (inl a)) (inl b) =
     let same = stopped_one contents asked.paths b.path a.path b.reached a.reached (absent_missed contents b.path b.absent) (long_missed contents a.path a.body a.held a.long) in
     let no_way : None ≡ Some a.body = sym b.absent ∙ ap (body_of contents) same ∙ a.held in absurd (cc)
 files_one asked contents status other text page (inr (inl a)) (inr (inl b)) =
-    named_one 6 _ a.path b.path status other text page
+    named_one 6 long_text a.path b.path status other text page
     (stopped_one contents asked.paths a.path b.path a.reached b.reached (long_missed contents a.path a.body a.held a.long) (long_missed contents b.path b.body b.held b.long)) a.is b.is
 files_one asked contents status other text page (inr (inl a)) (inr (inr b)) = absurd (missed_whole contents asked.paths a.path b.parts a.reached (long_missed contents a.path a.body a.held a.long) b.whole)
 files_one asked contents status other text page (inr (inr a)) (inl b) = absurd (missed_whole contents asked.paths b.path a.parts b.reached (absent_missed contents b.path b.absent) a.whole)
