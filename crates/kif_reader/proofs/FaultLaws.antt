@@ -1,28 +1,26 @@
 -- Where a fault of a token is met no piece stands, and one fault alone is met there.
-use Rattle.std.proofs.Common.{◌≡◌, ℕ, Bool, true, false, cond, eqb, Some, None, List, [], ◌∷◌, ◌++◌, ◌⊎◌, inl, inr, sym, ap, ◌∙◌, refl, subst, arith, append_assoc, append-nil}
+use Rattle.std.proofs.Common.{◌≡◌, ℕ, Bool, true, false, cond, Some, None, List, [], ◌∷◌, ◌++◌, inl, inr, sym, ap, ◌∙◌, refl, subst, arith, append_assoc}
 use Rattle.std.specs.List.{list_all}
-use Rattle.std.proofs.lemmas.Bool.Decides.{nat_tests}
-use Rattle.kif_reader.specs.Bytes.{is_blank, is_escaped, is_chunk_byte, is_string_byte}
+use Rattle.kif_reader.specs.Bytes.{is_escaped, is_chunk_byte, is_string_byte}
 use Rattle.kif_reader.specs.Chunks.{kind_of_chunk}
-use Rattle.kif_reader.specs.Cut.{Stops, Begins, BeginsBadEscape, IsCutOff, escaped, escaped_byte, Piece, Blank, Comment, Lexeme, bytes_of, Stands, IsChunk, IsChunkOf, IsFault, IsOpen, IsOpenString, BeginsBadChunk, is_outside, is_not_outside, is_not_string_byte}
-use Rattle.kif_reader.specs.declared.kinds.TokenKind.{TokenKind}
+use Rattle.kif_reader.specs.Cut.{Begins, BeginsBadEscape, IsCutOff, escaped, escaped_byte, Piece, Blank, Comment, Lexeme, bytes_of, Stands, IsChunk, IsFault, BeginsBadChunk, is_outside, is_not_outside, is_not_string_byte}
 use Rattle.kif_reader.specs.declared.kinds.TokenKind.TheVariants.{Left, Right, Word, Variable, Row, Numeral, Quoted}
 use Rattle.kif_reader.specs.declared.kinds.Fault.{Fault}
 use Rattle.kif_reader.specs.declared.kinds.Fault.TheVariants as faults
-use Rattle.kif_reader.proofs.UniqueLaws.{Class, CChunk, CQuoted, both, escaped_first, escaped_same, run_unique, Front, chunk_front, piece_front, class, class_of, class_of_kind, as_chunk, as_quoted}
+use Rattle.kif_reader.proofs.UniqueLaws.{CChunk, CQuoted, both, escaped_first, escaped_same, run_unique, chunk_front, piece_front, class, class_of, as_chunk, as_quoted}
 
 -- the first byte of a piece may stand outside of strings and comments
-record Outside (bytes : List ℕ) : Type 0 where
-  byte : ℕ
-  more : List ℕ
-  split : bytes ≡ byte ∷ more
-  outside : is_outside byte ≡ true
+pub record Outside (bytes : List ℕ) : Type 0 where
+  pub byte : ℕ
+  pub more : List ℕ
+  pub split : bytes ≡ byte ∷ more
+  pub outside : is_outside byte ≡ true
 
 chunk_outside : (bytes follow : List ℕ) → IsChunk bytes follow → Outside bytes
 chunk_outside [] follow is = absurd (omega (arith, is.some))
 chunk_outside (x ∷ xs) follow is = let h = (both (is_chunk_byte x) (list_all is_chunk_byte xs) is.all).0 in record { byte = x; more = xs; split = refl; outside = grind (arith, h) }
 
-piece_outside : (p : Piece) (follow : List ℕ) → Stands p follow → Outside (bytes_of p)
+pub piece_outside : (p : Piece) (follow : List ℕ) → Stands p follow → Outside (bytes_of p)
 piece_outside (Blank byte) follow is = record { byte = byte; more = []; split = refl; outside = grind (arith, is) }
 piece_outside (Comment body) follow is = record { byte = 59; more = body; split = refl; outside = refl }
 piece_outside (Lexeme Left bytes) follow is = record { byte = 40; more = []; split = is; outside = refl }
@@ -64,9 +62,9 @@ bad_byte_unclosed : (tail : List ℕ) → Begins is_not_string_byte tail → Unc
 bad_byte_unclosed tail is = record {
   no_quote = λ a e. bad_byte is.byte is.passes 34 refl (first_same is.byte 34 is.more a (sym is.is ∙ e));
   no_byte = λ v a good. elim (is_escaped v) as (λ t. tail ≡ cond t (92 ∷ v ∷ []) (v ∷ []) ++ a → ⊥) [
-      true ↦ λ e. bad_byte is.byte is.passes 92 refl (first_same is.byte 92 is.more (v ∷ a) (sym is.is ∙ e))
+    | true ↦ λ e. bad_byte is.byte is.passes 92 refl (first_same is.byte 92 is.more (v ∷ a) (sym is.is ∙ e))
     | false ↦ λ e. bad_byte is.byte is.passes v good (first_same is.byte v is.more a (sym is.is ∙ e))
-    ];
+  ];
 }
 
 not_both : (b : Bool) → b ≡ true → b ≡ false → ⊥
@@ -76,25 +74,25 @@ bad_escape_unclosed : (tail : List ℕ) → BeginsBadEscape tail → Unclosed ta
 bad_escape_unclosed tail is = record {
   no_quote = λ a e. let h : 92 ≡ 34 = first_same 92 34 (is.byte ∷ is.more) a (sym is.is ∙ e) in absurd (omega (arith, h));
   no_byte = λ v a good. elim (is_escaped v) as (λ t. is_escaped v ≡ t → tail ≡ cond t (92 ∷ v ∷ []) (v ∷ []) ++ a → ⊥) [
-      true ↦ λ t e. let h = first_same is.byte v is.more a (rest_same 92 92 (is.byte ∷ is.more) (v ∷ a) (sym is.is ∙ e)) in not_both (is_escaped v) t (ap is_escaped (sym h) ∙ is.bad)
+    | true ↦ λ t e. let h = first_same is.byte v is.more a (rest_same 92 92 (is.byte ∷ is.more) (v ∷ a) (sym is.is ∙ e)) in not_both (is_escaped v) t (ap is_escaped (sym h) ∙ is.bad)
     | false ↦ λ t e. let h = first_same 92 v (is.byte ∷ is.more) a (sym is.is ∙ e) in not_both (is_escaped v) (ap is_escaped (sym h)) t
-    ] refl;
+  ] refl;
 }
 
 cut_off_unclosed : (tail : List ℕ) → IsCutOff tail → Unclosed tail
 cut_off_unclosed tail (inl is) = record {
   no_quote = λ a e. nothing_first 34 a (sym is ∙ e);
   no_byte = λ v a good. elim (is_escaped v) as (λ t. tail ≡ cond t (92 ∷ v ∷ []) (v ∷ []) ++ a → ⊥) [
-      true ↦ λ e. nothing_first 92 (v ∷ a) (sym is ∙ e)
+    | true ↦ λ e. nothing_first 92 (v ∷ a) (sym is ∙ e)
     | false ↦ λ e. nothing_first v a (sym is ∙ e)
-    ];
+  ];
 }
 cut_off_unclosed tail (inr is) = record {
   no_quote = λ a e. let h : 92 ≡ 34 = first_same 92 34 [] a (sym is ∙ e) in absurd (omega (arith, h));
   no_byte = λ v a good. elim (is_escaped v) as (λ t. is_escaped v ≡ t → tail ≡ cond t (92 ∷ v ∷ []) (v ∷ []) ++ a → ⊥) [
-      true ↦ λ t e. nothing_first v a (rest_same 92 92 [] (v ∷ a) (sym is ∙ e))
+    | true ↦ λ t e. nothing_first v a (rest_same 92 92 [] (v ∷ a) (sym is ∙ e))
     | false ↦ λ t e. let h = first_same 92 v [] a (sym is ∙ e) in not_both (is_escaped v) (ap is_escaped (sym h)) t
-    ] refl;
+  ] refl;
 }
 
 breaks_unclosed : (fault : Fault) (tail : List ℕ) → Breaks fault tail → Unclosed tail

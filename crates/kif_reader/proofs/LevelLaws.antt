@@ -19,24 +19,24 @@ use Rattle.kif_reader.specs.declared.kinds.TokenKind.TheVariants.{Left, Right}
 use Rattle.kif_reader.proofs.SpellingLaws.{spelling_word, spelling_variable, spelling_row, spelling_numeral, spelling_quoted, spelling_list}
 
 -- the level behind tokens, whose places don't matter
-abbrev bare_level : ℕ → Spelled → Option ℕ
+abbrev pub bare_level : ℕ → Spelled → Option ℕ
 bare_level n [] = Some n
 bare_level n (token ∷ tokens) = level_behind token.0 n >>= (λ m. bare_level m tokens)
 
-same_level : (n : ℕ) (tokens : List Lexed) → bare_level n (map bare tokens) ≡ level n tokens
+pub same_level : (n : ℕ) (tokens : List Lexed) → bare_level n (map bare tokens) ≡ level n tokens
 same_level n [] = refl
 same_level n (t ∷ ts) = elim (level_behind t.kind n) as (λ o. (o >>= (λ m. bare_level m (map bare ts))) ≡ (o >>= (λ m. level m ts))) [ None ↦ refl | Some m ↦ same_level m ts ]
 
-bare-append : (n : ℕ) (xs ys : Spelled) → bare_level n (xs ++ ys) ≡ (bare_level n xs >>= (λ m. bare_level m ys))
+pub bare-append : (n : ℕ) (xs ys : Spelled) → bare_level n (xs ++ ys) ≡ (bare_level n xs >>= (λ m. bare_level m ys))
 bare-append n [] ys = refl
 bare-append n (x ∷ xs) ys = elim (level_behind x.0 n) as (λ o. (o >>= (λ m. bare_level m (xs ++ ys))) ≡ ((o >>= (λ m. bare_level m xs)) >>= (λ m. bare_level m ys))) [ None ↦ refl | Some m ↦ bare-append m xs ys ]
 
-through : (o : Option ℕ) (f : ℕ → Option ℕ) (m : ℕ) → (o >>= f) ≡ Some m → (p : ℕ) × (o ≡ Some p) × (f p ≡ Some m)
+pub through : (o : Option ℕ) (f : ℕ → Option ℕ) (m : ℕ) → (o >>= f) ≡ Some m → (p : ℕ) × (o ≡ Some p) × (f p ≡ Some m)
 through None f m e = absurd (cc)
 through (Some p) f m e = (p, refl, e)
 
 -- the tokens add so many levels to each level up to one from which they may stand
-abbrev Rises : ℕ → Spelled → Type 0
+abbrev pub Rises : ℕ → Spelled → Type 0
 Rises by xs = (n m k : ℕ) → bare_level n xs ≡ Some m → k ≤ n → bare_level k xs ≡ Some (k + by)
 
 rises_append : (a b : ℕ) (xs ys : Spelled) → Rises a xs → Rises b ys → Rises (a + b) (xs ++ ys)

@@ -1,5 +1,5 @@
 -- A text has one first fault at most, and none where it is spelled.
-use Rattle.std.proofs.Common.{◌≡◌, ℕ, suc, ◌+◌, ◌-◌, Bool, true, false, cond, eqb, ltb, Option, Some, None, List, [], ◌∷◌, ◌++◌, ◌⊎◌, inl, inr, sym, ap, ◌∙◌, refl, subst, arith, append_assoc, append-nil}
+use Rattle.std.proofs.Common.{◌≡◌, ℕ, ◌+◌, ◌-◌, true, false, cond, eqb, ltb, Option, Some, None, List, [], ◌∷◌, ◌++◌, ◌⊎◌, inl, inr, sym, ap, ◌∙◌, refl, subst, arith, append_assoc, append-nil}
 use Rattle.std.specs.Prelude.{◌≢◌}
 use Rattle.std.proofs.lemmas.Bool.Decides.{nat_tests}
 use Rattle.std.specs.List.{slice_get}
@@ -7,8 +7,8 @@ use Rattle.kif_tree.specs.declared.place.Located.{Located}
 use Rattle.kif_tree.specs.Shape.{first_forms_fault}
 use Rattle.kif_reader.specs.Bytes.{IsPlace}
 use Rattle.kif_reader.specs.Chunks.{◌>>=◌}
-use Rattle.kif_reader.specs.Cut.{Piece, Lexeme, bytes_of, joined, Stand, Stands, IsToken, IsFault}
-use Rattle.kif_reader.specs.Spelling.{Lexed, tokens_of, level, level_behind, Reads, forms_of, SpellsAll, Spells, LexFault, NestFault, LeavesOpen, ShapeFault, FirstFault}
+use Rattle.kif_reader.specs.Cut.{Piece, Lexeme, bytes_of, joined, Stand, IsToken, IsFault}
+use Rattle.kif_reader.specs.Spelling.{Lexed, tokens_of, level, level_behind, Reads, forms_of, Spells, LexFault, NestFault, LeavesOpen, ShapeFault, FirstFault}
 use Rattle.kif_reader.specs.declared.bytes.Spot.{Spot}
 use Rattle.kif_reader.specs.declared.kinds.TokenKind.{TokenKind}
 use Rattle.kif_reader.specs.declared.kinds.TokenKind.TheVariants.{Left, Right, Word, Variable, Row, Numeral, Quoted}
@@ -53,9 +53,9 @@ goes_nowhere text ts us b d r s is other on =
 outcomes_same : (text : List ℕ) (ts us : List Lexed) (b d r s : List ℕ) → Outcome text ts b r → Outcome text us d s → Same ts us b d r s
 outcomes_same text ts us b d r s is other = ways (reads_compare text ts us b d r s is.reads other.reads)
   where
-  ways : ReadsOn ts us b d r s ⊎ ReadsOn us ts d b s r → Same ts us b d r s
-  ways (inl on) = goes_nowhere text ts us b d r s is other on
-  ways (inr on) = same_back ts us b d r s (goes_nowhere text us ts d b s r other is on)
+    ways : ReadsOn ts us b d r s ⊎ ReadsOn us ts d b s r → Same ts us b d r s
+    ways (inl on) = goes_nowhere text ts us b d r s is other on
+    ways (inr on) = same_back ts us b d r s (goes_nowhere text us ts d b s r other is on)
 
 whole_outcome : (text : List ℕ) (tokens : List Lexed) (before : List ℕ) (depth : ℕ) → Reads text tokens before [] → level 0 tokens ≡ Some depth → Outcome text tokens before []
 whole_outcome text tokens before depth reads nests = record { depth = depth; reads = reads; nests = nests; final = λ more s m e stand _. nothing_more more s e stand }
@@ -123,19 +123,19 @@ some_up n a b e f = let l : n ≡ a = cc in let r : n + 1 ≡ b = cc in omega (a
 
 behind_up : (kind : TokenKind) (n a b : ℕ) → level_behind kind n ≡ Some a → level_behind kind (n + 1) ≡ Some b → b ≡ a + 1
 behind_up Left n a b = elim (ltb n 200) as (λ t. cond t (Some (n + 1)) None ≡ Some a → cond (ltb (n + 1) 200) (Some (n + 1 + 1)) None ≡ Some b → b ≡ a + 1) [
-    true ↦ elim (ltb (n + 1) 200) as (λ t. Some (n + 1) ≡ Some a → cond t (Some (n + 1 + 1)) None ≡ Some b → b ≡ a + 1) [
-        true ↦ λ e f. some_up (n + 1) a b e f
-      | false ↦ λ e f. absurd (cc)
-      ]
-  | false ↦ λ e f. absurd (cc)
+  | true ↦ elim (ltb (n + 1) 200) as (λ t. Some (n + 1) ≡ Some a → cond t (Some (n + 1 + 1)) None ≡ Some b → b ≡ a + 1) [
+    | true ↦ λ e f. some_up (n + 1) a b e f
+    | false ↦ λ e f. absurd (cc)
   ]
+  | false ↦ λ e f. absurd (cc)
+]
 behind_up Right n a b = elim (eqb n 0) as (λ t. eqb n 0 ≡ t → cond t None (Some (n - 1)) ≡ Some a → cond (eqb (n + 1) 0) None (Some (n + 1 - 1)) ≡ Some b → b ≡ a + 1) [
-    true ↦ λ t e f. absurd (cc)
+  | true ↦ λ t e f. absurd (cc)
   | false ↦ λ t. elim (eqb (n + 1) 0) as (λ t. Some (n - 1) ≡ Some a → cond t None (Some (n + 1 - 1)) ≡ Some b → b ≡ a + 1) [
-        true ↦ λ e f. absurd (cc)
-      | false ↦ λ e f. let l : n - 1 ≡ a = cc in let r : n + 1 - 1 ≡ b = cc in grind (arith, nat_tests, t, l, r)
-      ]
-  ] refl
+    | true ↦ λ e f. absurd (cc)
+    | false ↦ λ e f. let l : n - 1 ≡ a = cc in let r : n + 1 - 1 ≡ b = cc in grind (arith, nat_tests, t, l, r)
+  ]
+] refl
 behind_up Word n a b = some_up n a b
 behind_up Variable n a b = some_up n a b
 behind_up Row n a b = some_up n a b
@@ -155,9 +155,9 @@ level_up (t ∷ ts) n k j e f = up_step ts k j (level_behind t.kind n) (level_be
 level_front : (ts us : List Lexed) (n k : ℕ) → level n (ts ++ us) ≡ Some k → (m : ℕ) × (level n ts ≡ Some m)
 level_front ts us n k e = front (level n ts) (sym (level-append n ts us) ∙ e)
   where
-  front : (o : Option ℕ) → (o >>= (λ m. level m us)) ≡ Some k → (m : ℕ) × (o ≡ Some m)
-  front None e = absurd (cc)
-  front (Some m) e = (m, refl)
+    front : (o : Option ℕ) → (o >>= (λ m. level m us)) ≡ Some k → (m : ℕ) × (o ≡ Some m)
+    front None e = absurd (cc)
+    front (Some m) e = (m, refl)
 
 -- behind a list that stays open nothing is closed
 never_balanced : (closed mine rest : List Lexed) (x : Lexed) (depth : ℕ) → level 0 closed ≡ Some 0 → x.kind ≡ Left → level 0 (mine ++ rest) ≡ Some depth → level 0 (closed ++ x ∷ mine) ≡ Some 0 → ⊥
@@ -179,10 +179,10 @@ splits [] (z ∷ ys) a b x y e = let h : x ≡ z = cc in Before ys (ap (λ w. w 
 splits (z ∷ xs) [] a b x y e = let h : y ≡ z = cc in Behind xs (ap (λ w. w ∷ xs) (sym h)) cc
 splits (z ∷ xs) (w ∷ ys) a b x y e = let h : z ≡ w = cc in let t : xs ++ x ∷ a ≡ ys ++ y ∷ b = cc in more (splits xs ys a b x y t) h
   where
-  more : Splits xs ys a b x y → z ≡ w → Splits (z ∷ xs) (w ∷ ys) a b x y
-  more (Here f g) h = Here (λ i. h i ∷ f i) g
-  more (Before m f g) h = Before m (λ i. sym h i ∷ f i) g
-  more (Behind m f g) h = Behind m (λ i. h i ∷ f i) g
+    more : Splits xs ys a b x y → z ≡ w → Splits (z ∷ xs) (w ∷ ys) a b x y
+    more (Here f g) h = Here (λ i. h i ∷ f i) g
+    more (Before m f g) h = Before m (λ i. sym h i ∷ f i) g
+    more (Behind m f g) h = Behind m (λ i. h i ∷ f i) g
 
 -- ---- the cause of an error
 
@@ -262,10 +262,10 @@ open_open : (text : List ℕ) (x y : Spot) → LeavesOpen x.line x.column text �
 open_open text x y is other =
     ways (splits is.closed other.closed is.inner other.inner is.outermost other.outermost (tokens_unique text (is.closed ++ is.outermost ∷ is.inner) (other.closed ++ other.outermost ∷ other.inner) is.before other.before is.reads other.reads))
   where
-  ways : Splits is.closed other.closed is.inner other.inner is.outermost other.outermost → x ≡ y
-  ways (Here front at) = spot_same x y is.outermost.before other.outermost.before is.place other.place (ap (λ (t : Lexed). t.before) at)
-  ways (Before more front behind) = absurd (never_balanced is.closed more (other.outermost ∷ other.inner) is.outermost is.depth is.balanced is.opens (ap (level 0) (sym behind) ∙ is.unclosed) (ap (level 0) (sym front) ∙ other.balanced))
-  ways (Behind more front behind) = absurd (never_balanced other.closed more (is.outermost ∷ is.inner) other.outermost other.depth other.balanced other.opens (ap (level 0) (sym behind) ∙ other.unclosed) (ap (level 0) (sym front) ∙ is.balanced))
+    ways : Splits is.closed other.closed is.inner other.inner is.outermost other.outermost → x ≡ y
+    ways (Here front at) = spot_same x y is.outermost.before other.outermost.before is.place other.place (ap (λ (t : Lexed). t.before) at)
+    ways (Before more front behind) = absurd (never_balanced is.closed more (other.outermost ∷ other.inner) is.outermost is.depth is.balanced is.opens (ap (level 0) (sym behind) ∙ is.unclosed) (ap (level 0) (sym front) ∙ other.balanced))
+    ways (Behind more front behind) = absurd (never_balanced other.closed more (is.outermost ∷ is.inner) other.outermost other.depth other.balanced other.opens (ap (level 0) (sym behind) ∙ other.unclosed) (ap (level 0) (sym front) ∙ is.balanced))
 
 shape_shape : (c : ℕ) (text : List ℕ) (x y : Spot) → ShapeFault c x.line x.column text → ShapeFault c y.line y.column text → x ≡ y
 shape_shape c text x y is other =

@@ -74,8 +74,8 @@ one_spelling = induction P (record {
   row = λ t g xs ys e. let m = meets Row (64 ∷ t) xs g ys (ap (λ l. l ++ xs) (sym (spelling_row t)) ∙ e) in let b = m.means.1 in let v : t ≡ m.means.0 = cc in (ap form.Row v ∙ sym m.means.2, m.same ∙ ap (λ l. l ++ ys) m.means.3);
   quoted = λ t g xs ys e. let m = meets Quoted (quoted t) xs g ys (ap (λ l. l ++ xs) (sym (spelling_quoted t)) ∙ e) in let b = m.means.1 in let v = inside_unique t m.means.0 [] [] (cc) in (ap form.Quoted v.0 ∙ sym m.means.2, m.same ∙ ap (λ l. l ++ ys) m.means.3);
   list = λ parts each g xs ys e.
-    let start : ((Left, 40 ∷ []) ∷ flat_map spelling parts) ++ (Right, 41 ∷ []) ∷ xs ≡ spelling g ++ ys = sym (append_assoc ((Left, 40 ∷ []) ∷ flat_map spelling parts) ((Right, 41 ∷ []) ∷ []) xs) ∙ ap (λ l. l ++ xs) (sym (spelling_list parts)) ∙ e in
-    let m = meets Left (40 ∷ []) (flat_map spelling parts ++ (Right, 41 ∷ []) ∷ xs) g ys start in
-    let r = parts_same parts m.means.0 xs ys each (m.same ∙ ap (λ l. l ++ ys) m.means.2 ∙ append_assoc (flat_map spelling m.means.0) ((Right, 41 ∷ []) ∷ []) ys) in
-    (ap form.List r.0 ∙ sym m.means.1, r.1);
+      let start : ((Left, 40 ∷ []) ∷ flat_map spelling parts) ++ (Right, 41 ∷ []) ∷ xs ≡ spelling g ++ ys = sym (append_assoc ((Left, 40 ∷ []) ∷ flat_map spelling parts) ((Right, 41 ∷ []) ∷ []) xs) ∙ ap (λ l. l ++ xs) (sym (spelling_list parts)) ∙ e in
+      let m = meets Left (40 ∷ []) (flat_map spelling parts ++ (Right, 41 ∷ []) ∷ xs) g ys start in
+      let r = parts_same parts m.means.0 xs ys each (m.same ∙ ap (λ l. l ++ ys) m.means.2 ∙ append_assoc (flat_map spelling m.means.0) ((Right, 41 ∷ []) ∷ []) ys) in
+      (ap form.List r.0 ∙ sym m.means.1, r.1);
 })

@@ -1,5 +1,5 @@
 -- Of two readings of a text one goes on from the other.
-use Rattle.std.proofs.Common.{◌≡◌, ℕ, Some, List, [], ◌∷◌, ◌++◌, ◌⊎◌, inl, inr, length, take, sym, ap, ◌∙◌, refl, subst, append_assoc, append-nil}
+use Rattle.std.proofs.Common.{◌≡◌, ℕ, Some, List, [], ◌∷◌, ◌++◌, ◌⊎◌, inl, inr, length, take, sym, ap, ◌∙◌, refl, append_assoc, append-nil}
 use Rattle.std.specs.List.{slice_get}
 use Rattle.std.proofs.lemmas.List.Concat.{flat_map-append}
 use Rattle.kif_reader.specs.Cut.{Piece, bytes_of, joined, Stand}
@@ -30,17 +30,17 @@ reads_on text ts us b d r s is other on =
 pub reads_compare : (text : List ℕ) (ts us : List Lexed) (b d r s : List ℕ) → Reads text ts b r → Reads text us d s → ReadsOn ts us b d r s ⊎ ReadsOn us ts d b s r
 reads_compare text ts us b d r s is other = ways (cuts_compare is.pieces other.pieces r s is.cuts.stand other.cuts.stand (sym is.cuts.whole ∙ other.cuts.whole))
   where
-  ways : GoesOn is.pieces other.pieces r s ⊎ GoesOn other.pieces is.pieces s r → ReadsOn ts us b d r s ⊎ ReadsOn us ts d b s r
-  ways (inl on) = inl (reads_on text ts us b d r s is other on)
-  ways (inr on) = inr (reads_on text us ts d b s r other is on)
+    ways : GoesOn is.pieces other.pieces r s ⊎ GoesOn other.pieces is.pieces s r → ReadsOn ts us b d r s ⊎ ReadsOn us ts d b s r
+    ways (inl on) = inl (reads_on text ts us b d r s is other on)
+    ways (inr on) = inr (reads_on text us ts d b s r other is on)
 
 -- the tokens of a reading are a front of those of a whole one
 pub reads_front : (text : List ℕ) (ts us : List Lexed) (b d r : List ℕ) → Reads text ts b r → Reads text us d [] → (more : List Lexed) × (us ≡ ts ++ more)
 reads_front text ts us b d r is other = ways (reads_compare text ts us b d r [] is other)
   where
-  ways : ReadsOn ts us b d r [] ⊎ ReadsOn us ts d b [] r → (more : List Lexed) × (us ≡ ts ++ more)
-  ways (inl on) = (tokens_of b on.more, on.tokens)
-  ways (inr on) = ([], sym (append-nil us) ∙ sym (on.tokens ∙ ap (λ l. us ++ tokens_of d l) (nothing_more on.more r on.rest on.stand)) ∙ sym (append-nil ts))
+    ways : ReadsOn ts us b d r [] ⊎ ReadsOn us ts d b [] r → (more : List Lexed) × (us ≡ ts ++ more)
+    ways (inl on) = (tokens_of b on.more, on.tokens)
+    ways (inr on) = ([], sym (append-nil us) ∙ sym (on.tokens ∙ ap (λ l. us ++ tokens_of d l) (nothing_more on.more r on.rest on.stand)) ∙ sym (append-nil ts))
 
 get_behind : (ts more : List Lexed) (t : Lexed) → slice_get (ts ++ t ∷ more) (length ts) ≡ Some t
 get_behind [] more t = refl

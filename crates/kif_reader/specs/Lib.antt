@@ -3,5 +3,7 @@ pub mod Chunks
 pub mod Cut
 pub mod Laws
 pub mod Reading
+pub mod Runs
+pub mod Spellable
 pub mod Spelling
 pub mod Steps

@@ -1,0 +1,5 @@
+use Rattle.kif_reader.proofs.RunLaws.{gives_tokens, gives_whole, gives_fault, tokens_stand}
+use Rattle.kif_reader.proofs.laws.tokens_law.Goals as goal
+
+pub returns : goal.returns
+returns c = record { tokens = gives_tokens; places = tokens_stand; whole = gives_whole; fault = gives_fault }
