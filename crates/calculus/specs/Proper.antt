@@ -4,19 +4,9 @@ use Rattle.std.specs.List.{list_all, list_any}
 use Rattle.kif_tree.specs.declared.form.Form.{Form, para-Form, out-Form}
 use Rattle.kif_tree.specs.declared.form.Form.TheOpen.{Form-F}
 use Rattle.kif_tree.specs.Clauses.{Literals, is_answer}
+use Rattle.kif_tree.specs.Shape.{is_list}
 use Rattle.calculus.specs.Tidy.{IsTidy}
 use Rattle.calculus.specs.Closed.{rowless_clause}
-
-abbrev pub is_list_layer : Form-F Form → Bool
-is_list_layer (Form-F.Word text) = false
-is_list_layer (Form-F.Variable text) = false
-is_list_layer (Form-F.Row text) = false
-is_list_layer (Form-F.Numeral text) = false
-is_list_layer (Form-F.Quoted text) = false
-is_list_layer (Form-F.List parts) = true
-
-abbrev pub is_list : Form → Bool
-is_list f = is_list_layer (out-Form f)
 
 abbrev pub is_word_layer : Form-F Form → Bool
 is_word_layer (Form-F.Word text) = true

@@ -9,28 +9,12 @@ use Rattle.kif_tree.specs.declared.clause.Literal.{Literal}
 use Rattle.kif_tree.specs.Terms.{Bytes, has_no_row}
 use Rattle.kif_tree.specs.FormLaws.{induction}
 use Rattle.kif_tree.specs.Clauses.{Literals, is_answer}
+use Rattle.kif_tree.specs.Shape.{is_list}
 use Rattle.calculus.specs.Closed.{rowless_clause}
 use Rattle.calculus.specs.Tidy.{IsTidy}
-use Rattle.calculus.specs.Proper.{is_list, is_list_layer, is_word_layer, Part, begins_with_word, heads_step, has_word_heads, IsProper}
+use Rattle.calculus.specs.Proper.{is_word_layer, Part, begins_with_word, heads_step, has_word_heads, IsProper}
 use Rattle.calculus.proofs.TruthLaws.{both}
 use Rattle.calculus_programs.specs.Shape.{is_any_word, begins_with_any_word, fits}
-
--- ---- lists
-
-pub is_list-List : (parts : List Form) → is_list (form.List parts) ≡ true
-is_list-List parts = ap is_list_layer (form.outs-List parts)
-
-pub is_list_other : (f : Form) → ((parts : List Form) → f ≡ form.List parts → ⊥) → is_list f ≡ false
-is_list_other = induction (λ f. ((parts : List Form) → f ≡ form.List parts → ⊥) → is_list f ≡ false) (record {
-  word = λ text other. ap is_list_layer (form.outs-Word text);
-  variable = λ text other. ap is_list_layer (form.outs-Variable text);
-  row = λ text other. ap is_list_layer (form.outs-Row text);
-  numeral = λ text other. ap is_list_layer (form.outs-Numeral text);
-  quoted = λ text other. ap is_list_layer (form.outs-Quoted text);
-  list = λ parts each other. absurd (other parts refl);
-})
-
-pub ruleset list_laws = (is_list-List, is_list_other)
 
 -- ---- words
 

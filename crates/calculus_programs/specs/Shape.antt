@@ -2,7 +2,8 @@
 use Rattle.std.specs.Prelude.{List, [], ◌∷◌, Bool, false, ◌&&◌}
 use Rattle.kif_tree.specs.declared.form.Form.{Form, out-Form}
 use Rattle.kif_tree.specs.Terms.{has_no_row}
-use Rattle.calculus.specs.Proper.{is_list, is_word_layer, has_word_heads}
+use Rattle.kif_tree.specs.Shape.{is_list}
+use Rattle.calculus.specs.Proper.{is_word_layer, has_word_heads}
 
 abbrev pub is_any_word : Form → Bool
 is_any_word f = is_word_layer (out-Form f)

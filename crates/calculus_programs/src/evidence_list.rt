@@ -10,7 +10,7 @@ use crate::fillings::{follow, turn_back};
 use crate::instances::append_equalities;
 use crate::steps::{nth, replacement_of, untidy};
 use calculus::Step;
-use kif_tree::{Clause, Literal, Pair, Subst, Unnamed, fill, is_answer};
+use kif_tree::{Clause, Pair, Subst, ground_instance};
 use sigma_base::{Listed, NoMemory};
 use std::alloc::Global;
 
@@ -142,34 +142,5 @@ fn append_instance(
     let Some(clause) = nth(inputs, input) else {
         return Ok(());
     };
-    out.push(instance(alloc, clause, filling)?)
-}
-
-/// The ground instance of the clause without its answer literals.
-fn instance(alloc: Global, clause: &Clause, filling: &[Pair]) -> Result<Clause, NoMemory>
-    ensures { IfOk result (λ instance. instance ≡ bare clause.now (value_of filling.now)) }
-{
-    let mut literals = Listed::new(alloc);
-    for literal in clause.literals.items() {
-        push_instance(alloc, &mut literals, literal, filling)?;
-    }
-    Ok(Clause { literals })
-}
-
-fn push_instance(
-    alloc: Global,
-    literals: &mut Listed<Literal>,
-    literal: &Literal,
-    filling: &[Pair],
-) -> Result<(), NoMemory>
-    ensures { OnOk result (literals.new ≡ literals.old ++ bare (literal.now ∷ []) (value_of filling.now)) }
-{
-    let atom = fill(alloc, &literal.atom, filling, Unnamed::BecomesAny)?;
-    if is_answer(&atom) {
-        return Ok(());
-    }
-    literals.push(Literal {
-        positive: literal.positive,
-        atom,
-    })
+    out.push(ground_instance(alloc, clause, filling)?)
 }

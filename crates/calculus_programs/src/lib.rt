@@ -24,5 +24,5 @@ pub use proper::{has_word_heads, is_proper};
 pub use refute::refutes;
 pub use replacing::{Parent, replace};
 pub use rules::{factor, resolve};
-pub use steps::{clause_of, copy_clause, derive, nth, replacement_of, untidy};
+pub use steps::{clause_of, derive, nth, replacement_of, untidy};
 pub use tidying::{is_tidy, same_clauses, tidy};

@@ -3,6 +3,7 @@ ghost use Rattle.std.specs.Prelude.{◌≡◌, ◌&&◌, ◌↔◌, IsTrue, IfOk
 ghost use Rattle.std.specs.List.{list_all, list_any};
 ghost use Rattle.kif_tree.specs.Terms as terms;
 ghost use Rattle.kif_tree.specs.Clauses as clauses;
+ghost use Rattle.kif_tree.specs.Shape as forms;
 ghost use Rattle.calculus.specs.Proper as spec;
 ghost use Rattle.calculus_programs.specs.Shape as shape;
 
@@ -50,9 +51,8 @@ fn fits(atom: &Form) -> bool
     is_list(atom) && has_word_heads(atom) && has_no_row(atom)
 }
 
-#[tactic(auto, using(crate::proofs::ShapeLaws::list_laws))]
 fn is_list(form: &Form) -> bool
-    ensures { result ≡ spec.is_list form.now }
+    ensures { result ≡ forms.is_list form.now }
 {
     match form {
         Form::List(_) => true,

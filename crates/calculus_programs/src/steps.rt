@@ -149,26 +149,12 @@ pub fn clause_of(
         let Some(input) = nth(inputs, *number) else {
             return Ok(None);
         };
-        return Ok(Some(copy_clause(alloc, input)?));
+        return Ok(Some(input.copy(alloc)?));
     }
     let Some(literals) = untidy(alloc, step, clauses)? else {
         return Ok(None);
     };
     Ok(Some(tidy(alloc, &Clause { literals })?))
-}
-
-/// An equal clause.
-pub fn copy_clause(alloc: Global, clause: &Clause) -> Result<Clause, NoMemory>
-    ensures { IfOk result (λ copy. copy ≡ clause.now) }
-{
-    let mut literals = Listed::new(alloc);
-    for literal in clause.literals.items() {
-        literals.push(Literal {
-            positive: literal.positive,
-            atom: literal.atom.copy(alloc)?,
-        })?;
-    }
-    Ok(Clause { literals })
 }
 
 /// The clauses of the steps, where each step is allowed on the clauses before it.

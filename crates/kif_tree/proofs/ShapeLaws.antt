@@ -14,7 +14,7 @@ use Rattle.kif_tree.specs.declared.form.Form.TheOpen.{Form-F}
 use Rattle.kif_tree.specs.Terms.{Bytes}
 use Rattle.kif_tree.specs.FormLaws.{induction, fold-Word, fold-Variable, fold-Row, fold-Numeral, fold-Quoted, fold-List}
 use Rattle.kif_tree.proofs.TermLaws.{sum_more}
-use Rattle.kif_tree.specs.Shape.{token_count, token_count_step, tokens_of, has_word, has_word_step, Part, as_part, tested, fault_if, faults_from, faults_step, shape_faults, is_misshapen, capped, reached, walked, walked_part, is_list, is_list_layer, is_quantifier, is_quantifier_layer, is_empty_list, is_among, quantifiers, with_names, as_names, as_top, forms_faults, first_of, first_forms_fault}
+use Rattle.kif_tree.specs.Shape.{token_count, token_count_step, tokens_of, has_word, has_word_step, Part, as_part, tested, fault_if, faults_from, faults_step, shape_faults, is_misshapen, capped, reached, walked, walked_part, is_list, is_quantifier, is_quantifier_layer, is_empty_list, with_names, as_names, as_top, forms_faults, first_of, first_forms_fault}
 
 -- ---- tokens
 
@@ -149,26 +149,6 @@ walked_first start (f, at ∷ faults) parts = refl
 -- at the item of a loop
 pub tokens_more : (forms : List Form) (i : ℕ) (f : Form) → i < length forms → f ≡ get_or forms i f → tokens_of (take (i + 1) forms) ≡ tokens_of (take i forms) + token_count f
 tokens_more forms i f lt is = sym (sum_tokens (take (i + 1) forms)) ∙ sum_more token_count forms i f lt is ∙ ap (λ n. n + token_count f) (sum_tokens (take i forms))
-
--- ---- kinds of forms
-
-pub is_list-List : (parts : List Form) → is_list (form.List parts) ≡ true
-is_list-List parts = ap is_list_layer (form.outs-List parts)
-
-pub is_list_other : (f : Form) → ((parts : List Form) → f ≡ form.List parts → ⊥) → is_list f ≡ false
-is_list_other = induction (λ f. ((parts : List Form) → f ≡ form.List parts → ⊥) → is_list f ≡ false) (record {
-  word = λ text other. ap is_list_layer (form.outs-Word text);
-  variable = λ text other. ap is_list_layer (form.outs-Variable text);
-  row = λ text other. ap is_list_layer (form.outs-Row text);
-  numeral = λ text other. ap is_list_layer (form.outs-Numeral text);
-  quoted = λ text other. ap is_list_layer (form.outs-Quoted text);
-  list = λ parts each other. absurd (other parts refl);
-})
-
-pub ruleset list_laws = (is_list-List, is_list_other)
-
-pub is_quantifier-Word : (text : Bytes) → is_quantifier (form.Word text) ≡ is_among quantifiers text
-is_quantifier-Word text = ap is_quantifier_layer (form.outs-Word text)
 
 -- ---- the walk of each function
 

@@ -1,7 +1,10 @@
 //! Literals and clauses.
+ghost use Rattle.std.specs.Prelude.{◌≡◌, IfOk};
+
 use crate::form::Form;
 use crate::place::Place;
-use sigma_base::Listed;
+use sigma_base::{Listed, NoMemory};
+use std::alloc::Global;
 use std::marker::Model;
 
 /// An atom, or its negation.
@@ -28,6 +31,31 @@ impl Model for Clause {
     ghost coded = { Prim.hlevel (codes, form.the_row.coded) };
 
     ghost view = { λ clause. clause.literals };
+}
+
+impl Literal {
+    /// An equal literal.
+    pub fn copy(&self, alloc: Global) -> Result<Literal, NoMemory>
+        ensures { IfOk result (λ copy. copy ≡ self.now) }
+    {
+        Ok(Literal {
+            positive: self.positive,
+            atom: self.atom.copy(alloc)?,
+        })
+    }
+}
+
+impl Clause {
+    /// An equal clause.
+    pub fn copy(&self, alloc: Global) -> Result<Clause, NoMemory>
+        ensures { IfOk result (λ copy. copy ≡ self.now) }
+    {
+        let mut literals = Listed::new(alloc);
+        for literal in self.literals.items() {
+            literals.push(literal.copy(alloc)?)?;
+        }
+        Ok(Clause { literals })
+    }
 }
 
 /// A clause from which a search begins. With a place it is a clause of that variant of the form there. Without one,

@@ -105,17 +105,12 @@ pub fn followed_by(alloc: Global, first: &Subst, second: Subst) -> Result<Subst,
 }
 
 /// The ground instance of the clause without its answer literals. A variable that no pair names becomes the word `!any`.
-pub fn ground_instance(alloc: Global, clause: &Clause, subst: &Subst) -> Result<Clause, NoMemory>
-    ensures { IfOk result (λ instance. instance ≡ clauses.bare clause.now (spec.value_of subst.now.pairs)) }
+pub fn ground_instance(alloc: Global, clause: &Clause, pairs: &[Pair]) -> Result<Clause, NoMemory>
+    ensures { IfOk result (λ instance. instance ≡ clauses.bare clause.now (spec.value_of pairs.now)) }
 {
     let mut literals = Listed::new(alloc);
     for literal in clause.literals.items() {
-        let atom = fill(
-            alloc,
-            &literal.atom,
-            subst.pairs.items(),
-            Unnamed::BecomesAny,
-        )?;
+        let atom = fill(alloc, &literal.atom, pairs, Unnamed::BecomesAny)?;
         push_unless_answer(&mut literals, literal.positive, atom)?;
     }
     Ok(Clause { literals })

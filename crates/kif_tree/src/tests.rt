@@ -136,7 +136,8 @@ fn prints_a_form_of_all_kinds(rt: HostRuntime) -> Result<(), Fail> {
 
 fn printed_clause(alloc: Global, spelled: &[(bool, &[&str])]) -> Result<Text, NoMemory> {
     let clause = clause(alloc, spelled)?;
-    print_clause(alloc, &clause)
+    let copy = clause.copy(alloc)?;
+    print_clause(alloc, &copy)
 }
 
 #[test]
@@ -366,7 +367,7 @@ fn fills_what_no_pair_names(rt: HostRuntime) -> Result<(), Fail> {
 fn instance(alloc: Global, spelled: &[(bool, &[&str])]) -> Result<Text, NoMemory> {
     let clause = clause(alloc, spelled)?;
     let subst = subst(alloc, &[("X", "a"), ("X", "b")])?;
-    let instance = ground_instance(alloc, &clause, &subst)?;
+    let instance = ground_instance(alloc, &clause, subst.pairs.items())?;
     print_clause(alloc, &instance)
 }
 

@@ -1,7 +1,0 @@
-use Rattle.std.proofs.Common.{◌≡◌, take}
-use Rattle.kif_tree.specs.Clauses.{bare}
-use Rattle.kif_tree.specs.Subst.{value_of}
-use Rattle.calculus_programs.proofs.evidence_list.instance.Given as goal
-
-abbrev pub invariant-loop-literal : goal.invariant-loop-literal
-invariant-loop-literal l = l.literals ≡ bare (take l.literal-index l.literal-items) (value_of l.filling)
