@@ -1,10 +1,11 @@
+//! Tokens, and why a text isn't read.
 ghost use Rattle.std.specs.Prelude.{◌≡◌};
 
 use crate::bytes::Spot;
 use kif_tree::Forms;
 use sigma_base::NoMemory;
 
-/// What a token is.
+/// What a token is. A variable begins with `?`, a row variable with `@`, and a string stands between its quotes.
 #[derive(Clone, Copy, Debug, PartialEq, Eq)]
 pub enum TokenKind {
     Left,
@@ -34,7 +35,7 @@ pub enum StringEnd {
     BadEscape,
 }
 
-/// A token, and the place of its first byte.
+/// A token with its bytes, which are lent out of the text as they stand there, and the place of the first of them.
 #[derive(Clone, Copy, Debug)]
 pub struct Token<'a> {
     pub kind: TokenKind,
@@ -43,7 +44,7 @@ pub struct Token<'a> {
     pub column: u32,
 }
 
-/// Why no more tokens come, and the place where that shows.
+/// Why no token can be taken, and the place of that, as the causes of the same names of `ReadError` say.
 #[derive(Clone, Copy, Debug, PartialEq, Eq)]
 pub enum LexError {
     BadByte(Spot),

@@ -1,3 +1,4 @@
+//! The form that a single token spells.
 ghost use Rattle.std.specs.Prelude.{◌≡◌, ◌≢◌, ◌∷◌, [], ◌++◌, ◌≤◌, ℕ, List, IfOk, length, drop, take};
 ghost use Rattle.kif_reader.specs.Cut.{IsInside, IsToken, escaped};
 ghost use Rattle.kif_reader.specs.Spelling.{spelling};

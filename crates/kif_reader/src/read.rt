@@ -1,3 +1,5 @@
+//! Reads whole texts. Tokens are taken one by one, with the lists that are open on a stack; a text whose lists are all closed is
+//! then tested for faults of shape.
 ghost use Rattle.std.specs.Prelude.{◌≡◌, ◌≤◌, ◌∷◌, [], ◌++◌, ◌+◌, ◌<◌, ◌^◌, ◌⊎◌, ◌≢◌, true, ℕ, List, All, Some, IfOk, IfErr, IsErrAnd, OnOk, length, slice_get, MatchResult, vec_len};
 ghost use Rattle.kif_tree.specs.Shape.{is_shaped};
 ghost use Rattle.kif_reader.specs.Bytes.{IsPlace};
@@ -175,7 +177,9 @@ fn token_spot(text: &[u8], number: usize) -> Spot
     unreachable!()
 }
 
-/// The forms of a text of `constituent`, with their places, or the first fault of the text.
+/// The forms of a text, each a list at the top, with their places: the given constituent, numbers from 1, and the line and column
+/// of the first byte. A text with faults gives the first of them: those that are met while tokens are taken go before lists that are
+/// left open, and these before faults of shape.
 pub fn read_forms(alloc: Global, text: &[u8], constituent: u32) -> Result<Vec<Located>, ReadError>
     requires { length text.now < 2 ^ 31 }
     ensures forms { IfOk result (λ forms. Spells constituent text.now forms.items) }

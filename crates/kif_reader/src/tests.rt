@@ -1,4 +1,5 @@
-//! Texts with the tokens, forms and faults that they have, worked by hand.
+//! Texts with the tokens, forms and faults that they have, worked by hand, and prefixes of texts against a plain second reader.
+use crate::plain::answer_shown;
 use crate::{LexError, ReadError, Spot, Token, TokenKind, Tokens, read_forms};
 use kif_tree::{Located, Text, print_form};
 use sigma_base::NoMemory;
@@ -305,5 +306,38 @@ fn two_hundred_levels_are_read(rt: HostRuntime) -> Result<(), Fail> {
         forms_shown(rt.alloc(), text.bytes())?.bytes(),
         b"fault 7 1:1001".as_slice()
     );
+    Ok(())
+}
+
+#[test]
+fn fronts_and_ends_are_read_as_the_plain_reader_does(rt: HostRuntime) -> Result<(), Fail> {
+    let table: [(&[u8], &[u8]); 7] = [
+        (
+            b"\xef\xbb\xbf; a comment (\"\\\x00\xff\r\n(instance Abel-1_x.y Man)\t(=> (and (p ?X) (q @ROW -12.5e+3 ?Y-1))\n  (exists (?Y @Z)\x0c(<=> (r \"a\\\"b\\\\c\n\td \xc3\xa9;\" 7)(not(s 0.5)))))\r\n(documentation ?X \"line\nline\" =>);\n(forall (?A @B)\n (or (p ?A \"\\\"\") (?F 1E-7 <=> a\"b\"c)\n (g 007 -0 2e5 (h (k ?1 @2 \"\") forall exists))))\n\n(f)(g)  ; end (",
+            b"7.1 2:1 (instance Abel-1_x.y Man)|7.2 2:",
+        ),
+        (
+            b"(p (exists () (q))\n ;(\n (not (p) (q)))\n(f) () (",
+            b"fault 3 4:8",
+        ),
+        (b"(p)\n(and (q)) x \"s\" 1 ?v @r (p))", b"fault 4 2:28"),
+        (b"(\"a\x7f\" b)", b"fault 1 1:4"),
+        (b"(p) \"\\q\"", b"fault 5 1:6"),
+        (
+            b"(forall ((x)) y) (exists (p) q) (=> a) (or) (and) (not) (\"\") (1) (@R) ((p)) (p ())",
+            b"fault 8 1:1",
+        ),
+        (b"\xef\xbb(", b"fault 1 1:1"),
+    ];
+    for (text, front) in &table {
+        for len in 0..=text.len() {
+            let (before, behind) = text.split_at(len);
+            for part in [before, behind] {
+                let want = answer_shown(rt.alloc(), part)?;
+                assert_eq!(rt; forms_shown(rt.alloc(), part)?.bytes(), want.bytes());
+            }
+        }
+        assert!(rt; forms_shown(rt.alloc(), text)?.bytes().starts_with(front));
+    }
     Ok(())
 }
