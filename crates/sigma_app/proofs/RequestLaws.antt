@@ -1,11 +1,10 @@
 -- What the words of a command line ask for.
-use Rattle.std.proofs.Common.{◌≡◌, ◌∙◌, refl, sym, ap, ap₂, Bool, true, false, ◌&&◌, List, [], ◌∷◌, map, Option, Some, None, is_some}
+use Rattle.std.proofs.Common.{◌≡◌, ◌∙◌, refl, sym, ap, Bool, true, false, ◌&&◌, List, [], ◌∷◌, map, Option, Some, None, is_some}
 use Rattle.std.specs.Str.{bytes_eq}
 use Rattle.std.proofs.lemmas.Slice.Eq.{bytes_eq-Decides}
 use Rattle.std.proofs.Common.{arith, inl, inr, ◌⊎◌, ◌||◌, codes, Result, Ok, Err, ◌≢◌}
 use Rattle.std.specs.Prelude.{◌↔◌, option_and_then, IfOk, IsErrAnd}
 use Rattle.std.specs.Option.{option_map, option_map_or}
-use Rattle.std.specs.List.{list_any}
 use Rattle.std.specs.Borrow.{Bor}
 use Rattle.clap.specs.Values.{reading_of, same_text}
 use Rattle.clap.specs.ValueTests.{accepts}

@@ -1,15 +1,14 @@
 -- Where the parser of command lines takes the words, each argument that was found has a value. This is for commands of which each
 -- argument takes one value or more.
-use Rattle.std.proofs.Common.{◌≡◌, ◌∙◌, ◌+◌, ◌<◌, ◌≤◌, ℕ, ◌&&◌, ◌||◌, Bool, cond, true, false, not, zero, suc, refl, sym, ap, arith, List, [], ◌∷◌, ◌++◌, length, length-append, drop, min, Option, Some, None, is_some, nat_le}
+use Rattle.std.proofs.Common.{◌≡◌, ◌<◌, ◌≤◌, ℕ, ◌&&◌, ◌||◌, Bool, cond, true, false, not, zero, suc, refl, arith, List, [], ◌∷◌, ◌++◌, length, length-append, drop, Option, Some, None, is_some, nat_le}
 use Rattle.std.specs.Prelude.{encode_utf8, slice_get, option_and_then}
-use Rattle.std.specs.List.{find, fold, list_all, list_any}
+use Rattle.std.specs.List.{find, fold}
 use Rattle.std.specs.Option.{option_map, option_map_or}
 use Rattle.std.specs.Str.{bytes_eq, chars}
 use Rattle.std.proofs.lemmas.Bool.{leb-true}
 use Rattle.clap.specs.Lexer.{long_of, short_of}
-use Rattle.clap.specs.Matches.{count_text}
 use Rattle.clap.specs.Facts.{explicit_source, unwrap_or_range}
-use Rattle.clap.specs.Walk.{Held, Names, Outcome, done, waits, plain, refused, Waiting, idle, option, positional, Row, Rule, Step, next, trailing, subcommand, value, Text, Walk, action_of, after_flag, after_step, all_of, arg_by_id, arg_by_index, arg_by_long, arg_by_short, at_row, attached_value, bundle_met, bundle_step, count_of, default_rows, finished, first_of, flag_met, has_row, is_pending, long_met, long_or_other, more_values, nothing_held, option_met, option_word, plain_word, reacted, reading_by, rows_after, settled, settled_rows, short_met, short_or_plain, subcommand_met, subcommand_or_other, takes_several, takes_values, to_positional, used, used_as, used_by_id, walk, walk_from, walked, walked_from, with_default, with_values, without, word_met}
+use Rattle.clap.specs.Walk.{Held, Names, Outcome, done, waits, plain, refused, Waiting, idle, option, positional, Row, Rule, Step, next, trailing, subcommand, value, Text, Walk, action_of, after_flag, after_step, all_of, arg_by_id, arg_by_index, arg_by_long, arg_by_short, at_row, attached_value, bundle_met, bundle_step, default_rows, finished, first_of, flag_met, has_row, is_pending, long_met, long_or_other, more_values, nothing_held, option_met, option_word, plain_word, reacted, reading_by, rows_after, settled, settled_rows, short_met, short_or_plain, subcommand_met, subcommand_or_other, takes_several, takes_values, to_positional, used, used_as, used_by_id, walk, walk_from, walked, walked_from, with_default, with_values, without, word_met}
 use Rattle.clap.specs.Simple.{Shape}
 use Rattle.clap.specs.Takes.{bundle_passes, bundle_step_passes, flag_word_passes, flags_pass, is_given, is_valid, level_passes, long_passes, option_passes, other_passes, positional_passes, react_passes, settle_passes, short_passes, step_passes, turn_passes, use_passes, walk_passes, word_passes}
 use Rattle.clap.specs.declared.builder.action.ArgAction.{ArgAction}
@@ -248,7 +247,7 @@ level_full s words each e =
     let settles = both (settle_passes s.rules s.args_override_self end) _ walks.1 in
     let valid = both _ (is_valid s (finished s.rules end) false) settles.1 in (
       with_defaults_full s.rules (settled s.rules end).rows
-      (settled_full s.rules each s.args_override_self end settles.0 (walks_full s each [] (walk_from nothing_held) words walks.0 tt)),
+          (settled_full s.rules each s.args_override_self end settles.0 (walks_full s each [] (walk_from nothing_held) words walks.0 tt)),
       valid.1,
     )
 

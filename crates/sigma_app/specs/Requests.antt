@@ -11,7 +11,6 @@ use Rattle.sig_io.specs.Named.{AreDistinct}
 use Rattle.sigma_app.specs.Commands.{named, app, modes}
 use Rattle.sigma_app.specs.declared.commands.CommandName.{CommandName}
 use Rattle.sigma_app.specs.declared.commands.CommandName.TheVariants as command
-use Rattle.sigma_app.specs.declared.requests.Ask.{Ask}
 use Rattle.sigma_app.specs.declared.requests.Request.{Request}
 use Rattle.sigma_app.specs.declared.requests.Request.TheVariants as request
 use Rattle.sigma_app.specs.declared.requests.WordsError.{WordsError}
