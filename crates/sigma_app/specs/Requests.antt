@@ -1,10 +1,10 @@
 -- What the words of a command line ask for: the values that the parser of command lines promises for them.
-use Rattle.std.specs.Prelude.{◌≡◌, ◌↔◌, ◌⊎◌, nat_lt, List, [], ◌∷◌, map, length, Option, Some, None, option_map, option_and_then, Bool, true, false, ◌||◌, Result, Ok, Err, codes}
+use Rattle.std.specs.Prelude.{◌≡◌, ◌↔◌, ◌⊎◌, nat_lt, List, [], ◌∷◌, map, length, Option, Some, None, option_map, option_and_then, Bool, true, false, ◌||◌, Result, Ok, Err, codes, ℕ, pos, IfSome}
 use Rattle.std.specs.Option.{option_map_or}
 use Rattle.std.specs.List.{list_any}
 use Rattle.std.specs.Str.{bytes_eq}
 use Rattle.std.specs.Borrow.{Bor}
-use Rattle.clap.specs.ValueTests.{accepts}
+use Rattle.clap.specs.ValueTests.{accepts, is_signed_in}
 use Rattle.clap.specs.Words.{Row, takes, matches_of, first_of, all_of}
 use Rattle.kif_tree.specs.Terms.{Bytes}
 use Rattle.sig_io.specs.Named.{AreDistinct}
@@ -142,6 +142,23 @@ TakenMeans = (words : List Bytes) → IsTaken words → (value : Meaning) × Mea
 -- an option for the mode takes the two words and no others
 abbrev pub TakesTwoModes : Type 0
 TakesTwoModes = (word : Bytes) → (accepts false modes word ≡ true) ↔ ((word ≡ codes "support") ⊎ (word ≡ codes "full"))
+
+-- the text is a number from 1 to the most
+abbrev pub IsUpTo : ℕ → Bytes → Type 0
+IsUpTo most text = is_signed_in (pos 1) (pos most) text ≡ true
+
+-- the options have the values that they may have
+pub record HasOptions (asked : Asked) : Type 0 where
+  pub turns : IfSome asked.turns (IsUpTo 100000)
+  pub answers : IfSome asked.answers (IsUpTo 1000)
+  pub kept : IfSome asked.kept (IsUpTo 200000)
+  pub mode : IfSome asked.mode (λ word. (word ≡ codes "support") ⊎ (word ≡ codes "full"))
+
+abbrev pub OptionsFit : Type 0
+OptionsFit = (words : List Bytes) (asked : Asked) → IsTaken words → Means words (asks asked) → HasOptions asked
+
+abbrev pub SizesFit : Type 0
+SizesFit = (words : List Bytes) (size : Bytes) → IsTaken words → Means words (drills size) → IsUpTo 2000 size
 
 -- no path stands twice exactly where the paths differ
 abbrev pub TwiceIsExact : Type 0
