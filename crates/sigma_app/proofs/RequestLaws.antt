@@ -21,7 +21,7 @@ use Rattle.sigma_app.specs.declared.commands.CommandName.TheVariants as command
 use Rattle.sigma_app.specs.declared.requests.Request.{Request}
 use Rattle.sigma_app.specs.declared.requests.WordsError.{WordsError}
 use Rattle.sigma_app.specs.declared.requests.WordsError.TheVariants.{Usage, NoMemory}
-use Rattle.sigma_app.specs.Requests.{Asked, HasOptions, Meaning, meaning, is_taken, Means, IsTaken, meaning_of, ReadsWords, asks, checks, gives_clauses, exports, drills, asked_of, paths_of, meaning_by}
+use Rattle.sigma_app.specs.Requests.{Asked, HasOptions, IsUpTo, Meaning, meaning, is_taken, Means, IsTaken, meaning_of, ReadsWords, asks, checks, gives_clauses, exports, drills, asked_of, paths_of, meaning_by}
 use Rattle.sigma_app.proofs.ValueLaws.{Full, level_full, given_first, given_all, first_passes}
 use Rattle.sigma_app.proofs.ParserLaws.{rows_after_same, level_passes_same}
 
@@ -336,3 +336,37 @@ pub options_fit : (words : List Text) (asked : Asked) → IsTaken words → Mean
 unfolding meaning is_taken
 options_fit [] asked taken means = absurd (false_true taken)
 options_fit (word ∷ rest) asked taken means = options_by (named word) rest asked taken means
+
+-- ---- the size of a drill
+
+size_map : (o : Option Text) (size : Text) → option_map drills o ≡ Some (drills size) → o ≡ Some size
+unfolding size_in
+size_map None size e = absurd (cc)
+size_map (Some x) size e = ap (λ m. Some (size_in x m)) e
+
+no_size : (rows : List Row) (o : Option Text) (p : Option (List Text)) (size : Text) → option_and_then (λ query. option_map (λ paths. asks (asked_of rows query paths)) p) o ≡ Some (drills size) → ⊥
+no_size rows None p size e = cc
+no_size rows (Some query) None size e = cc
+no_size rows (Some query) (Some paths) size e = cc
+
+no_files_size : (f : List Text → Meaning) (size : Text) → ((x : List Text) → f x ≡ drills size → ⊥) → (o : Option (List Text)) → option_map f o ≡ Some (drills size) → ⊥
+no_files_size f size other None e = cc
+no_files_size f size other (Some x) e = let is : f x ≡ drills size = cc in other x is
+
+named_size : (name : CommandName) (rest : List Text) (size : Text) → takes (app name) rest ≡ true → meaning_by name (matches_of (app name) rest) ≡ Some (drills size) → IsUpTo 2000 size
+named_size command.Ask rest size taken e = absurd (no_size (matches_of (ask_app_by modes) rest) _ _ size e)
+named_size command.Check rest size taken e = absurd (no_files_size checks size (λ x is. cc) _ e)
+named_size command.Clauses rest size taken e = absurd (no_files_size gives_clauses size (λ x is. cc) _ e)
+named_size command.Export rest size taken e = absurd (no_files_size exports size (λ x is. cc) _ e)
+named_size command.Drill rest size taken e = first_passes (passes_in drill_app) (codes "size") (matches_of drill_app rest) size (drill_full rest taken).0 (size_map _ size e)
+
+sizes_by : (o : Option CommandName) (rest : List Text) (size : Text) → option_map_or (λ name. takes (app name) rest) o false ≡ true
+    → option_and_then (λ name. meaning_by name (matches_of (app name) rest)) o ≡ Some (drills size) → IsUpTo 2000 size
+sizes_by None rest size taken means = absurd (false_true taken)
+sizes_by (Some name) rest size taken means = named_size name rest size taken means
+
+-- the size of a drill whose words are taken
+pub sizes_fit : (words : List Text) (size : Text) → IsTaken words → Means words (drills size) → IsUpTo 2000 size
+unfolding meaning is_taken
+sizes_fit [] size taken means = absurd (false_true taken)
+sizes_fit (word ∷ rest) size taken means = sizes_by (named word) rest size taken means
