@@ -1,13 +1,15 @@
 -- What the words of a command line ask for.
-use Rattle.std.proofs.Common.{◌≡◌, ◌∙◌, subst, refl, sym, ap, Bool, true, false, ◌&&◌, List, [], ◌∷◌, map, Option, Some, None, is_some}
+use Rattle.std.proofs.Common.{◌≡◌, ◌∙◌, subst, refl, sym, ap, Bool, true, false, ◌&&◌, List, [], ◌∷◌, map, Option, Some, None, is_some, ℕ, pos, arith, inl, inr, ◌⊎◌, ◌||◌, codes, Result, Ok, Err, ◌≢◌}
 use Rattle.std.specs.Str.{bytes_eq}
+use Rattle.std.proofs.lemmas.Int.{ints}
 use Rattle.std.proofs.lemmas.Slice.Eq.{bytes_eq-Decides}
-use Rattle.std.proofs.Common.{arith, inl, inr, ◌⊎◌, ◌||◌, codes, Result, Ok, Err, ◌≢◌}
 use Rattle.std.specs.Prelude.{◌↔◌, IfSome, option_and_then, IfOk, IsErrAnd}
 use Rattle.std.specs.Option.{option_map, option_map_or}
 use Rattle.std.specs.Borrow.{Bor}
-use Rattle.clap.specs.Values.{reading_of, same_text}
-use Rattle.clap.specs.ValueTests.{accepts}
+use Rattle.clap.specs.Values.{IsSignedIn, reading_of, same_text}
+use Rattle.clap.specs.ValueTests.{accepts, is_signed_in}
+use Rattle.clap.proofs.ValueTestLemmas.{accepts-Accepts}
+use Rattle.std.specs.Str.Parse.{IsNumeral, starts_with_minus, without_leading_plus}
 use Rattle.clap.specs.Walk.{arg_by_id, first_of, Row, Held, Text, nothing_held, walk}
 use Rattle.clap.specs.Simple.{App, Shape, built, entered, is_simple, matches_of}
 use Rattle.clap.specs.Takes.{value_passes, is_given, built_takes, entered_passes, level_passes, takes}
@@ -301,6 +303,23 @@ asked_from command.Clauses rows asked e = absurd (no_map gives_clauses asked (λ
 asked_from command.Export rows asked e = absurd (no_map exports asked (λ x is. cc) _ e)
 asked_from command.Drill rows asked e = absurd (no_map drills asked (λ x is. cc) _ e)
 
+number_from : (most : ℕ) (text : Text) → is_signed_in (pos 1) (pos most) text ≡ true → IsUpTo most text
+number_from most text e = go (starts_with_minus text) refl (accepts-Accepts false (vp.Signed (pos 1) (pos most)) text e)
+  where
+    go : (b : Bool) → starts_with_minus text ≡ b → IsSignedIn (pos 1) (pos most) text → IsUpTo most text
+    go true minus passed =
+        let low = rw minus at passed.2 in
+        absurd (omega (arith, ints))
+    go false minus passed =
+        let low = rw minus at passed.2 in
+        let high = rw minus at passed.3 in
+        let numeral : IsNumeral 10 (without_leading_plus text) = rw minus at passed.0 in
+        (numeral, omega (arith, ints), omega (arith, ints))
+
+if_number : (most : ℕ) (o : Option Text) → IfSome o (λ v. is_signed_in (pos 1) (pos most) v ≡ true) → IfSome o (IsUpTo most)
+if_number most None h = tt
+if_number most (Some v) h = number_from most v h
+
 if_mode : (o : Option Text) → IfSome o (λ v. passes_in (ask_app_by modes) (codes "mode") v ≡ true) → IfSome o (λ word. (word ≡ codes "support") ⊎ (word ≡ codes "full"))
 if_mode None h = tt
 if_mode (Some v) h = (two_modes v).0 h
@@ -312,9 +331,9 @@ ask_fits rest asked query paths taken is =
     let ok = passes_in (ask_app_by modes) in
     let full = (ask_full rest taken).0 in
     subst (λ (a : Asked). HasOptions a) is (record {
-      turns = if_passes ok (codes "turns") rows full;
-      answers = if_passes ok (codes "answers") rows full;
-      kept = if_passes ok (codes "kept") rows full;
+      turns = if_number 100000 (first_of (codes "turns") rows) (if_passes ok (codes "turns") rows full);
+      answers = if_number 1000 (first_of (codes "answers") rows) (if_passes ok (codes "answers") rows full);
+      kept = if_number 200000 (first_of (codes "kept") rows) (if_passes ok (codes "kept") rows full);
       mode = if_mode (first_of (codes "mode") rows) (if_passes ok (codes "mode") rows full);
     })
 
@@ -358,7 +377,8 @@ named_size command.Ask rest size taken e = absurd (no_size (matches_of (ask_app_
 named_size command.Check rest size taken e = absurd (no_files_size checks size (λ x is. cc) _ e)
 named_size command.Clauses rest size taken e = absurd (no_files_size gives_clauses size (λ x is. cc) _ e)
 named_size command.Export rest size taken e = absurd (no_files_size exports size (λ x is. cc) _ e)
-named_size command.Drill rest size taken e = first_passes (passes_in drill_app) (codes "size") (matches_of drill_app rest) size (drill_full rest taken).0 (size_map _ size e)
+named_size command.Drill rest size taken e =
+    number_from 2000 size (first_passes (passes_in drill_app) (codes "size") (matches_of drill_app rest) size (drill_full rest taken).0 (size_map _ size e))
 
 sizes_by : (o : Option CommandName) (rest : List Text) (size : Text) → option_map_or (λ name. takes (app name) rest) o false ≡ true
     → option_and_then (λ name. meaning_by name (matches_of (app name) rest)) o ≡ Some (drills size) → IsUpTo 2000 size

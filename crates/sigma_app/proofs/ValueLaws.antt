@@ -71,8 +71,13 @@ module _ (ok : Text → Text → Bool) where
         source = Some s;
         reading = how;
       } ∷ []) rows
-      (λ r same here. ((omega (arith, length-append r.values values),
-      all_append (ok r.id) r.values values here.1 (ap (λ (t : Text). list_all (ok t) values) ((bytes_eq-Decides r.id id).0 same) ∙ pass)), tt))
+      (λ r same here. (
+        (
+          omega (arith, length-append r.values values),
+          all_append (ok r.id) r.values values here.1 (ap (λ (t : Text). list_all (ok t) values) ((bytes_eq-Decides r.id id).0 same) ∙ pass),
+        ),
+        tt,
+      ))
       ((some, pass), tt) full
 
   without_full : (id : Text) (rows : List Row) → Full rows → Full (without id rows)
@@ -311,7 +316,7 @@ level_full ok s words each e =
     let settles = both (settle_passes s.rules s.args_override_self end) _ walks.1 in
     let valid = both (list_all default_passes s.rules) (is_valid s (finished s.rules end) false) settles.1 in (
       with_defaults_full ok s.rules (settled s.rules end).rows each valid.0
-      (settled_full ok s.rules each s.args_override_self end settles.0 (walks_full ok s each [] (walk_from nothing_held) words walks.0 tt)),
+          (settled_full ok s.rules each s.args_override_self end settles.0 (walks_full ok s each [] (walk_from nothing_held) words walks.0 tt)),
       valid.1,
     )
 

@@ -1,10 +1,11 @@
 -- What the words of a command line ask for: the values that the parser of command lines promises for them.
-use Rattle.std.specs.Prelude.{◌≡◌, ◌↔◌, ◌⊎◌, nat_lt, List, [], ◌∷◌, map, length, Option, Some, None, option_map, option_and_then, Bool, true, false, ◌||◌, Result, Ok, Err, codes, ℕ, pos, IfSome}
+use Rattle.std.specs.Prelude.{◌≡◌, ◌↔◌, ◌⊎◌, nat_lt, List, [], ◌∷◌, map, length, Option, Some, None, option_map, option_and_then, Bool, true, false, ◌||◌, Result, Ok, Err, codes, ℕ, IfSome, ◌≤◌}
 use Rattle.std.specs.Option.{option_map_or}
 use Rattle.std.specs.List.{list_any}
 use Rattle.std.specs.Str.{bytes_eq}
+use Rattle.std.specs.Str.Parse.{IsNumeral, digits_value, without_leading_plus}
 use Rattle.std.specs.Borrow.{Bor}
-use Rattle.clap.specs.ValueTests.{accepts, is_signed_in}
+use Rattle.clap.specs.ValueTests.{accepts}
 use Rattle.clap.specs.Words.{Row, takes, matches_of, first_of, all_of}
 use Rattle.kif_tree.specs.Terms.{Bytes}
 use Rattle.sig_io.specs.Named.{AreDistinct}
@@ -143,9 +144,11 @@ TakenMeans = (words : List Bytes) → IsTaken words → (value : Meaning) × Mea
 abbrev pub TakesTwoModes : Type 0
 TakesTwoModes = (word : Bytes) → (accepts false modes word ≡ true) ↔ ((word ≡ codes "support") ⊎ (word ≡ codes "full"))
 
--- the text is a number from 1 to the most
+-- the text is a number from 1 to the most in decimal, with a plus in front or none
 abbrev pub IsUpTo : ℕ → Bytes → Type 0
-IsUpTo most text = is_signed_in (pos 1) (pos most) text ≡ true
+IsUpTo most text =
+    let digits = without_leading_plus text in
+    IsNumeral 10 digits × (1 ≤ digits_value 10 digits) × (digits_value 10 digits ≤ most)
 
 -- the options have the values that they may have
 pub record HasOptions (asked : Asked) : Type 0 where
