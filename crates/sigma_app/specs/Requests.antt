@@ -1,8 +1,9 @@
 -- What the words of a command line ask for: the values that the parser of command lines promises for them.
-use Rattle.std.specs.Prelude.{◌≡◌, ◌↔◌, ◌⊎◌, nat_lt, List, [], ◌∷◌, map, length, Option, Some, None, option_map, option_and_then, Bool, true, false, ◌||◌, Result, Ok, Err, codes}
+use Rattle.std.specs.Prelude.{◌≡◌, ◌↔◌, ◌⊎◌, nat_lt, List, [], ◌∷◌, map, length, Option, Some, None, option_map, option_and_then, Bool, true, false, ◌||◌, Result, Ok, Err, codes, ℕ, IfSome, ◌≤◌}
 use Rattle.std.specs.Option.{option_map_or}
 use Rattle.std.specs.List.{list_any}
 use Rattle.std.specs.Str.{bytes_eq}
+use Rattle.std.specs.Str.Parse.{IsNumeral, digits_value, without_leading_plus}
 use Rattle.std.specs.Borrow.{Bor}
 use Rattle.clap.specs.ValueTests.{accepts}
 use Rattle.clap.specs.Words.{Row, takes, matches_of, first_of, all_of}
@@ -11,7 +12,6 @@ use Rattle.sig_io.specs.Named.{AreDistinct}
 use Rattle.sigma_app.specs.Commands.{named, app, modes}
 use Rattle.sigma_app.specs.declared.commands.CommandName.{CommandName}
 use Rattle.sigma_app.specs.declared.commands.CommandName.TheVariants as command
-use Rattle.sigma_app.specs.declared.requests.Ask.{Ask}
 use Rattle.sigma_app.specs.declared.requests.Request.{Request}
 use Rattle.sigma_app.specs.declared.requests.Request.TheVariants as request
 use Rattle.sigma_app.specs.declared.requests.WordsError.{WordsError}
@@ -146,6 +146,25 @@ TakenMeans = (words : List Bytes) → IsTaken words → (value : Meaning) × Mea
 -- an option for the mode takes the two words and no others
 abbrev pub TakesTwoModes : Type 0
 TakesTwoModes = (word : Bytes) → (accepts false modes word ≡ true) ↔ ((word ≡ codes "support") ⊎ (word ≡ codes "full"))
+
+-- the text is a number from 1 to the most in decimal, with a plus in front or none
+abbrev pub IsUpTo : ℕ → Bytes → Type 0
+IsUpTo most text =
+    let digits = without_leading_plus text in
+    IsNumeral 10 digits × (1 ≤ digits_value 10 digits) × (digits_value 10 digits ≤ most)
+
+-- the options have the values that they may have
+pub record HasOptions (asked : Asked) : Type 0 where
+  pub turns : IfSome asked.turns (IsUpTo 100000)
+  pub answers : IfSome asked.answers (IsUpTo 1000)
+  pub kept : IfSome asked.kept (IsUpTo 200000)
+  pub mode : IfSome asked.mode (λ word. (word ≡ codes "support") ⊎ (word ≡ codes "full"))
+
+abbrev pub OptionsFit : Type 0
+OptionsFit = (words : List Bytes) (asked : Asked) → IsTaken words → Means words (asks asked) → HasOptions asked
+
+abbrev pub SizesFit : Type 0
+SizesFit = (words : List Bytes) (size : Bytes) → IsTaken words → Means words (drills size) → IsUpTo 2000 size
 
 -- no path stands twice exactly where the paths differ
 abbrev pub TwiceIsExact : Type 0

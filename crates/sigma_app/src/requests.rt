@@ -55,7 +55,8 @@ impl<'a> Request<'a> {
     {
         match self {
             Request::Ask(ask) => ask.files.as_slice(),
-            Request::Check(files) | Request::Clauses(files) | Request::Export(files) => files.as_slice(),
+            Request::Check(files) | Request::Clauses(files) | Request::Export(files) =>
+                files.as_slice(),
             Request::Drill(_) => &[],
         }
     }
@@ -71,7 +72,11 @@ fn error_of(kind: ErrorKind) -> WordsError
 }
 
 /// What the command finds in the words after its name.
-fn found_in<'a>(alloc: Global, name: CommandName, words: &'a [String]) -> Result<ArgMatches<'a>, WordsError>
+fn found_in<'a>(
+    alloc: Global,
+    name: CommandName,
+    words: &'a [String],
+) -> Result<ArgMatches<'a>, WordsError>
     ensures found { IfOk result (λ m. rows_of (found_of m) ≡ matches_of (commands.app name) (map string_bytes words.entry.now)) }
     ensures refused { result ≡ Err WordsError.Usage → takes (commands.app name) (map string_bytes words.entry.now) ≢ true }
 {
@@ -123,7 +128,11 @@ fn size_of<'a>(matches: &ArgMatches<'a>) -> Result<&'a str, WordsError>
 }
 
 /// The request by what the command found.
-fn request_by<'a>(alloc: Global, name: CommandName, matches: &ArgMatches<'a>) -> Result<Request<'a>, WordsError>
+fn request_by<'a>(
+    alloc: Global,
+    name: CommandName,
+    matches: &ArgMatches<'a>,
+) -> Result<Request<'a>, WordsError>
     ensures found { IfOk result (λ r. spec.meaning_by name (rows_of (found_of matches.now)) ≡ Some (spec.meaning_of r)) }
     ensures absent { result ≡ Err WordsError.Usage → spec.meaning_by name (rows_of (found_of matches.now)) ≡ None }
 {

@@ -23,12 +23,7 @@ fn shown(alloc: Global, request: &Request<'_>) -> Result<String, AllocError> {
     match request {
         Request::Ask(ask) => format!(in alloc;
             "ask {} {:?} {:?} {:?} {:?} {:?}",
-            ask.query,
-            ask.files,
-            ask.turns,
-            ask.answers,
-            ask.kept,
-            ask.mode
+            ask.query, ask.files, ask.turns, ask.answers, ask.kept, ask.mode
         ),
         Request::Check(files) => format!(in alloc; "check {files:?}"),
         Request::Clauses(files) => format!(in alloc; "clauses {files:?}"),
@@ -74,7 +69,17 @@ fn takes_words_of_the_usage_text(rt: HostRuntime) -> Result<(), Fail> {
                 r#"ask q ["a.kif", "b.kif"] None None None None"#,
             ),
             (
-                &["ask", "--turns", "100000", "--answers=1000", "--kept", "200000", "--mode=support", "q", "a.kif"],
+                &[
+                    "ask",
+                    "--turns",
+                    "100000",
+                    "--answers=1000",
+                    "--kept",
+                    "200000",
+                    "--mode=support",
+                    "q",
+                    "a.kif",
+                ],
                 r#"ask q ["a.kif"] Some("100000") Some("1000") Some("200000") Some("support")"#,
             ),
             (
@@ -124,7 +129,10 @@ fn refuses_other_words(rt: HostRuntime) -> Result<(), Fail> {
             (&["ask", "--turns", "100001", "q", "a.kif"], refused),
             (&["ask", "--answers", "1001", "q", "a.kif"], refused),
             (&["ask", "--kept", "200001", "q", "a.kif"], refused),
-            (&["ask", "--turns", "1", "--turns", "1", "q", "a.kif"], refused),
+            (
+                &["ask", "--turns", "1", "--turns", "1", "q", "a.kif"],
+                refused,
+            ),
             (&["ask", "--mode", "fuller", "q", "a.kif"], refused),
             (&["ask", "--mode", "Full", "q", "a.kif"], refused),
             (&["ask", "--turns", "q", "a.kif"], refused),

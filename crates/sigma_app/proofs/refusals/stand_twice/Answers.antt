@@ -1,4 +1,4 @@
-use Rattle.std.proofs.Common.{◌≡◌, ◌∙◌, not, true, false, slice_index_or, refl, rules, sym, [], Bor, List, ℕ}
+use Rattle.std.proofs.Common.{◌∙◌, rules, sym, [], Bor, List, ℕ}
 use Rattle.sigma_app.proofs.RepeatLaws.{left_all, left_after, was_new}
 use Rattle.sigma_app.proofs.refusals.stand_twice.Goals as goal
 

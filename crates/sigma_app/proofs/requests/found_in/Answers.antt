@@ -1,7 +1,6 @@
-use Rattle.std.proofs.Common.{◌≡◌, ◌∙◌, sym, map, string_bytes}
+use Rattle.std.proofs.Common.{◌≡◌, ◌∙◌, map, string_bytes}
 use Rattle.clap.specs.Words.{app_of}
-use Rattle.sigma_app.specs.declared.requests.WordsError.{WordsError}
-use Rattle.sigma_app.specs.declared.requests.WordsError.TheVariants.{Usage, NoMemory}
+use Rattle.sigma_app.specs.declared.requests.WordsError.TheVariants.{NoMemory}
 use Rattle.sigma_app.proofs.RequestLaws.{app_matches, app_takes, app_simple}
 use Rattle.sigma_app.proofs.requests.found_in.Goals as goal
 
