@@ -185,11 +185,10 @@ each_item P (y ∷ xs) x h (inr later) = each_item P xs x h.1 later
 numbers_above : (contents : Contents) (at : ℕ) (paths : List Bytes) (parts : List Part) → AreWhole contents at paths parts → Each (λ (part : Part). at ≤ part.number) parts
 numbers_above contents at [] parts h = subst (Each (λ (part : Part). at ≤ part.number)) (sym h) tt
 numbers_above contents at (path ∷ paths) [] h = absurd h
-numbers_above contents at (path ∷ paths) (part ∷ parts) h =
-    (
-      omega (arith, h.0.numbered),
-      each_map (λ (p : Part). at + 1 ≤ p.number) (λ (p : Part). at ≤ p.number) (λ p above. omega (arith, above)) parts (numbers_above contents (at + 1) paths parts h.1),
-    )
+numbers_above contents at (path ∷ paths) (part ∷ parts) h = (
+  omega (arith, h.0.numbered),
+  each_map (λ (p : Part). at + 1 ≤ p.number) (λ (p : Part). at ≤ p.number) (λ p above. omega (arith, above)) parts (numbers_above contents (at + 1) paths parts h.1),
+)
 
 others : (contents : Contents) (at : ℕ) (paths : List Bytes) (before : List Part) (part : Part) (following : List Part) → AreWhole contents at paths (before ++ part ∷ following)
     → Each (λ (other : Part). other.number ≢ part.number) (before ++ following)

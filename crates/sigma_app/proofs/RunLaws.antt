@@ -190,4 +190,3 @@ module _ (words : List Bytes) (told : Option Contents) (before now status : ℕ)
       by_cause : ((result ≡ 8) × Rose sink_before sink_now) ⊎ ((result ≡ 9) × (sink_now ≡ sink_before)) → sink_now ≡ sink_before
       by_cause (inl (eight, rose)) = absurd (no_eight eight)
       by_cause (inr (nine, quiet)) = quiet
-

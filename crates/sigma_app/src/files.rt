@@ -44,7 +44,12 @@ fn fetch_one<F: Files>(alloc: Global, path: &str, files: &mut F) -> Result<Body,
     let mut body = Vec::new(alloc);
     match files.fetch(path, BYTE_LIMIT, &mut body) {
         Ok(Fetched::Whole) => Ok(Body::Text(Text::of_bytes(body))),
-        Ok(Fetched::Absent) => Ok(Body::Stopped(path_reply(alloc, 3, b"absent ", path.as_bytes())?)),
+        Ok(Fetched::Absent) => Ok(Body::Stopped(path_reply(
+            alloc,
+            3,
+            b"absent ",
+            path.as_bytes(),
+        )?)),
         Ok(Fetched::TooLong) => Ok(Body::Stopped(path_reply(
             alloc,
             6,

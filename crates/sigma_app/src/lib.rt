@@ -18,4 +18,6 @@ pub use laws::{one_outcome_law, plain_atom_law, words_law};
 pub use tool::run_tool;
 
 #[cfg(test)]
+mod tests;
+#[cfg(test)]
 mod tests_requests;

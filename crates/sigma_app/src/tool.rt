@@ -191,7 +191,11 @@ fn ask_reply<F: Files>(alloc: Global, ask: &Ask<'_>, files: &mut F) -> Result<Re
 }
 
 /// The reply to a request.
-fn request_reply<F: Files>(alloc: Global, request: &Request<'_>, files: &mut F) -> Result<Reply, NoMemory>
+fn request_reply<F: Files>(
+    alloc: Global,
+    request: &Request<'_>,
+    files: &mut F,
+) -> Result<Reply, NoMemory>
     ensures told { F.told files.new ≡ F.told files.old }
     ensures reply { IfOk result (λ reply. run.OnRequest (requests.meaning_of request.now) (F.told files.old) (F.faults files.old) (F.faults files.new) reply.status reply.text) }
     ensures cause { OnErr result (run.MayHaveRisen (F.faults files.old) (F.faults files.new)) }
