@@ -32,6 +32,8 @@ int main(int count, char **words) {
         perror("measure");
         return 1;
     }
-    printf("%lld %ld %d\n", now() - start, used.ru_maxrss, WIFEXITED(status) ? WEXITSTATUS(status) : 128 + WTERMSIG(status));
+    long long taken = now() - start;
+    int ended = WIFEXITED(status) ? WEXITSTATUS(status) : 128 + WTERMSIG(status);
+    printf("%lld %ld %d\n", taken, used.ru_maxrss, ended);
     return 0;
 }
