@@ -136,6 +136,15 @@ ReadsWords words (Err NoMemory) = Unit {0}
 abbrev pub MeansOne : Type 0
 MeansOne = (words : List Bytes) (a b : Meaning) → Means words a → Means words b → a ≡ b
 
+-- the first word names no command, or there is none
+abbrev pub NamesNone : List Bytes → Type 0
+NamesNone [] = Unit {0}
+NamesNone (word ∷ rest) = named word ≡ None
+
+-- such words mean nothing
+abbrev pub OthersMeanNothing : Type 0
+OthersMeanNothing = (words : List Bytes) → NamesNone words → meaning words ≡ None
+
 -- words that the parser promises to take mean something
 abbrev pub TakenMeans : Type 0
 TakenMeans = (words : List Bytes) → IsTaken words → (value : Meaning) × Means words value
