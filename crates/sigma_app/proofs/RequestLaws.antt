@@ -23,7 +23,7 @@ use Rattle.sigma_app.specs.declared.commands.CommandName.TheVariants as command
 use Rattle.sigma_app.specs.declared.requests.Request.{Request}
 use Rattle.sigma_app.specs.declared.requests.WordsError.{WordsError}
 use Rattle.sigma_app.specs.declared.requests.WordsError.TheVariants.{Usage, NoMemory}
-use Rattle.sigma_app.specs.Requests.{Asked, HasOptions, IsUpTo, Meaning, meaning, is_taken, Means, IsTaken, meaning_of, ReadsWords, asks, checks, gives_clauses, exports, drills, asked_of, paths_of, meaning_by}
+use Rattle.sigma_app.specs.Requests.{NamesNone, Asked, HasOptions, IsUpTo, Meaning, meaning, is_taken, Means, IsTaken, meaning_of, ReadsWords, asks, checks, gives_clauses, exports, drills, asked_of, paths_of, meaning_by}
 use Rattle.sigma_app.proofs.ValueLaws.{Full, level_full, given_first, given_all, first_passes}
 use Rattle.sigma_app.proofs.ParserLaws.{rows_after_same, level_passes_same}
 
@@ -201,6 +201,12 @@ some_one o x y e g = cc
 -- words mean one thing at most
 pub means_one : (words : List Text) (a b : Meaning) → Means words a → Means words b → a ≡ b
 means_one words a b e g = some_one (meaning words) a b e g
+
+-- words that name no command mean nothing
+pub nothing_meant : (words : List Text) → NamesNone words → meaning words ≡ None
+unfolding meaning
+nothing_meant [] none = refl
+nothing_meant (word ∷ rest) none = ap (λ o. option_and_then (λ name. meaning_by name (matches_of (app name) rest)) o) none
 
 taken_by : (o : Option CommandName) (rest : List Text) → option_map_or (λ name. takes (app name) rest) o false ≡ true
     → is_some (option_and_then (λ name. meaning_by name (matches_of (app name) rest)) o) ≡ true

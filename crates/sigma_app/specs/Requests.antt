@@ -12,6 +12,7 @@ use Rattle.sig_io.specs.Named.{AreDistinct}
 use Rattle.sigma_app.specs.Commands.{named, app, modes}
 use Rattle.sigma_app.specs.declared.commands.CommandName.{CommandName}
 use Rattle.sigma_app.specs.declared.commands.CommandName.TheVariants as command
+use Rattle.sigma_app.specs.declared.requests.Ask.{Ask}
 use Rattle.sigma_app.specs.declared.requests.Request.{Request}
 use Rattle.sigma_app.specs.declared.requests.Request.TheVariants as request
 use Rattle.sigma_app.specs.declared.requests.WordsError.{WordsError}
@@ -138,6 +139,15 @@ ReadsWords words (Err NoMemory) = Unit {0}
 -- words mean one thing at most
 abbrev pub MeansOne : Type 0
 MeansOne = (words : List Bytes) (a b : Meaning) → Means words a → Means words b → a ≡ b
+
+-- the first word names no command, or there is none
+abbrev pub NamesNone : List Bytes → Type 0
+NamesNone [] = Unit {0}
+NamesNone (word ∷ rest) = named word ≡ None
+
+-- such words mean nothing
+abbrev pub OthersMeanNothing : Type 0
+OthersMeanNothing = (words : List Bytes) → NamesNone words → meaning words ≡ None
 
 -- words that the parser promises to take mean something
 abbrev pub TakenMeans : Type 0

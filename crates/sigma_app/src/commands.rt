@@ -1,5 +1,5 @@
 //! The commands of the tool, as the parser of command lines takes the words of each.
-ghost use Rattle.std.specs.Prelude.{◌≡◌, IfOk, IfSome, false, Some, option_map};
+ghost use Rattle.std.specs.Prelude.{◌≡◌, IfOk, false};
 ghost use Rattle.clap.specs.Words.{app_of, rule_of};
 ghost use Rattle.clap.specs.declared.builder.command.Command.TheViews.{out-Command};
 ghost use Rattle.sigma_app.specs.Commands as spec;

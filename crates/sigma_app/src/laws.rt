@@ -16,10 +16,11 @@ pub fn plain_atom_law()
     ensures heads { laws.HeadsArePlain }
 {}
 
-/// The words of a command line mean one thing at most, and something where the parser promises to take them. Then the options have
-/// values that they may have.
+/// The words of a command line mean one thing at most: nothing where the first names no command, and something where the parser
+/// promises to take them. Then the options have values that they may have.
 pub fn words_law()
     ensures one { requests.MeansOne }
+    ensures none { requests.OthersMeanNothing }
     ensures some { requests.TakenMeans }
     ensures modes { requests.TakesTwoModes }
     ensures options { requests.OptionsFit }

@@ -1,6 +1,6 @@
 //! What the words of a command line ask for, read by the parser of command lines.
-ghost use Rattle.std.specs.Prelude.{◌≡◌, ◌≢◌, ◌↔◌, IfOk, None, Some, Err, map, true, string_bytes, option_map};
-ghost use Rattle.clap.specs.Words.{app_of, rows_of, found_of, matches_of, takes};
+ghost use Rattle.std.specs.Prelude.{◌≡◌, ◌≢◌, IfOk, None, Some, Err, map, true, string_bytes};
+ghost use Rattle.clap.specs.Words.{rows_of, found_of, matches_of, takes};
 ghost use Rattle.sigma_app.specs.Commands as commands;
 ghost use Rattle.sigma_app.specs.Requests as spec;
 
