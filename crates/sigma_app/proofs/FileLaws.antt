@@ -11,7 +11,7 @@ use Rattle.std.proofs.lemmas.Bool.{false≢true}
 use Rattle.std.proofs.lemmas.List.{length-replicate, take-append-drop, map-append, map_more, length-map, length-take-le}
 use Rattle.std.specs.Borrow.{Bor}
 use Rattle.sigma_app.proofs.PlainLaws.{IsItem, item_more}
-use Rattle.sigma_base.specs.Lists.{Each, each_append, each_left, each_right}
+use Rattle.sigma_base.specs.Lists.{Each}
 use Rattle.kif_tree.specs.declared.form.Form.{Form}
 use Rattle.kif_tree.specs.declared.place.Located.{Located}
 use Rattle.kif_reader.specs.declared.bytes.Spot.{Spot}
@@ -22,14 +22,13 @@ use Rattle.sig_io.specs.Causes.{Rose}
 use Rattle.sig_io.specs.Told.{body_of}
 use Rattle.kif_reader.specs.Spelling.{Spells}
 use Rattle.sigma_app.specs.declared.files.Part.{Part}
-use Rattle.sigma_app.specs.declared.files.Body.{Body}
 use Rattle.sigma_app.specs.declared.files.Body.TheVariants as body
 use Rattle.sigma_app.specs.declared.reply.Reply.{Reply}
 use Rattle.sigma_app.specs.Requests.{stand_twice}
-use Rattle.sigma_app.specs.Files.{Contents, byte_limit, IsWhole, AreWhole, IsReached, live_size, AreShort, SpellParts}
+use Rattle.sigma_app.specs.Files.{Contents, byte_limit, IsWhole, AreWhole, live_size, AreShort, SpellParts}
 use Rattle.sigma_app.specs.Plain.{IsPlainAtom}
-use Rattle.sigma_app.specs.Tool.{Is, absent_text, long_text, fault_text, fault_in, IsOnlyForm, SpellsQuery, IsFaulty, HasFault, IsAbsent, IsTooLong, Agrees}
-use Rattle.sigma_app.specs.Run.{Over, Fails, OnFetches, FetchesOne}
+use Rattle.sigma_app.specs.Tool.{Is, absent_text, long_text, fault_in, IsOnlyForm, SpellsQuery, IsFaulty, HasFault, IsAbsent, IsTooLong, Agrees}
+use Rattle.sigma_app.specs.Run.{Over, OnFetches, FetchesOne}
 
 -- ---- the first file of a name
 

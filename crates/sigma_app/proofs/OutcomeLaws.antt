@@ -1,5 +1,5 @@
 -- Why the tool gives one status and one text for the same words and files.
-use Rattle.std.proofs.Common.{◌≡◌, ℕ, ◌+◌, ◌<◌, ◌≤◌, List, [], ◌∷◌, ◌++◌, length, nat_le, Bool, true, false, Option, Some, None, codes, ◌⊎◌, inl, inr, sym, ap, ap₂, ◌∙◌, subst, arith}
+use Rattle.std.proofs.Common.{◌≡◌, ℕ, ◌+◌, ◌<◌, ◌≤◌, List, [], ◌∷◌, ◌++◌, length, nat_le, Bool, true, false, Some, None, codes, ◌⊎◌, inl, inr, sym, ap, ap₂, ◌∙◌, subst, arith}
 use Rattle.std.specs.Prelude.{slice_get, MatchBool}
 use Rattle.std.proofs.lemmas.Bool.{false≢true}
 use Rattle.std.proofs.lemmas.Bool.Decides.{nat_tests}
@@ -20,13 +20,13 @@ use Rattle.kif_reader.specs.declared.kinds.ReadError.TheVariants as unread
 use Rattle.kif_reader.proofs.OneFaultLaws.{spells_no_fault, fault_unique}
 use Rattle.sigma_app.specs.declared.files.Part.{Part}
 use Rattle.sigma_app.specs.Requests.{Asked, Meaning, asks, checks, gives_clauses, exports, drills, IsTaken, is_refused}
-use Rattle.sigma_app.proofs.RequestLaws.{means_one, taken_means}
+use Rattle.sigma_app.proofs.RequestLaws.{means_one}
 use Rattle.sigma_app.specs.Files.{Contents, byte_limit, IsWhole, AreWhole, IsReached, live_size, SpellParts}
 use Rattle.sigma_app.specs.Matching.{Fits, IsFirstMatch, value_pair, binding}
 use Rattle.sigma_app.specs.Proof.{values, lines_of}
 use Rattle.sigma_app.specs.Page.{answer_text, end_text}
 use Rattle.sigma_app.specs.Files.{load_names}
-use Rattle.sigma_app.specs.Tool.{Is, usage, not_built, absent_text, long_text, live_text, many_text, live_limit, file_limit, fault_in, syntax_text, has_option, found_page, Shows, SpellsQuery, IsPlain, OnForms, IsFaulty, OnTexts, OnParts, OnFiles, OnAsked, OnBuilt, HasMeaning, Tool}
+use Rattle.sigma_app.specs.Tool.{Is, usage, not_built, absent_text, long_text, live_text, many_text, live_limit, file_limit, fault_in, syntax_text, has_option, found_page, Shows, SpellsQuery, OnForms, IsFaulty, OnTexts, OnParts, OnFiles, OnAsked, OnBuilt, HasMeaning, Tool}
 use Rattle.sigma_app.specs.Laws.{SameOutcome}
 
 is_one : (wanted : ℕ) (shown : Bytes) (status other : ℕ) (text page : Bytes) → Is wanted shown status text → Is wanted shown other page → SameOutcome status other text page
@@ -111,8 +111,11 @@ parts_one [] facts more a b = a ∙ sym b
 parts_one (part ∷ parts) facts more a b =
     a.2 ∙ (λ i. spells_unique part.number part.text a.0 b.0 a.3 b.3 i ++ parts_one parts a.1 b.1 a.4 b.4 i) ∙ sym b.2
 
+never : (at : ℕ × Spot) → None ≡ Some at → ⊥
+never at e = cc
+
 no_memory : (error : ReadError) (code : ℕ) (spot : Spot) → fault_in error ≡ Some (code, spot) → error ≡ unread.NoMemory → ⊥
-no_memory error code spot at is = let no_way : None ≡ Some (code, spot) = sym (ap fault_in is) ∙ at in cc
+no_memory error code spot at is = never (code, spot) (sym (ap fault_in is) ∙ at)
 
 faulty_spelled : (part : Part) (status : ℕ) (text : Bytes) (forms : List Located) → IsFaulty part status text → Spells part.number part.text forms → ⊥
 faulty_spelled part status text forms faulty spells = spells_no_fault part.number part.text forms faulty.error spells faulty.fault (no_memory faulty.error faulty.code faulty.spot faulty.at)

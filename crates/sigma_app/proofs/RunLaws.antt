@@ -7,11 +7,11 @@ use Rattle.kif_tree.specs.declared.place.Located.{Located}
 use Rattle.kif_tree.specs.Terms.{Bytes}
 use Rattle.sig_io.specs.Causes.{Rose}
 use Rattle.sigma_app.specs.declared.files.Part.{Part}
-use Rattle.sigma_app.specs.Requests.{Asked, Meaning, asks, checks, gives_clauses, exports, drills, IsTaken, is_refused}
+use Rattle.sigma_app.specs.Requests.{Asked, Meaning, asks, checks, gives_clauses, exports, drills, is_refused}
 use Rattle.sigma_app.specs.Files.{Contents, live_size}
-use Rattle.sigma_app.specs.Tool.{Is, usage, not_built, live_text, many_text, live_limit, file_limit, has_option, Shows, OnForms, OnTexts, OnParts, OnFiles, OnAsked, OnBuilt, OnMeaning, Tool, GivesTool}
+use Rattle.sigma_app.specs.Tool.{Is, usage, not_built, live_text, many_text, live_limit, file_limit, has_option, Shows, OnForms, OnTexts, OnParts, OnFiles, OnAsked, OnBuilt, Tool, GivesTool}
 use Rattle.sigma_app.proofs.EvidenceLaws.{shows_proof}
-use Rattle.sigma_app.specs.Run.{IsTrouble, IsCutShort, MayBeRefused, MustBeRefused, Appends, ReportsFault, AppendsPrefix, IsOwnReply, IsFaultReply, Obtains, Printed}
+use Rattle.sigma_app.specs.Run.{IsTrouble, IsCutShort, MayBeRefused, MustBeRefused, Appends, ReportsFault, AppendsPrefix, IsOwnReply, Obtains, Printed}
 
 -- ---- the statuses of the tool itself
 

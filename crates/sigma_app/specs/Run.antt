@@ -1,5 +1,5 @@
 -- What a run of the tool leaves: the status, the bytes that were appended and the counts of faults.
-use Rattle.std.specs.Prelude.{◌≡◌, ℕ, ◌<◌, ◌≤◌, true, false, List, length, Option, Some, None, IfSome, MatchBool, ◌⊎◌}
+use Rattle.std.specs.Prelude.{◌≡◌, ℕ, ◌<◌, ◌≤◌, true, List, length, Option, Some, None, IfSome, MatchBool, ◌⊎◌}
 use Rattle.std.specs.Io.KnownBytes.{append_known}
 use Rattle.kif_tree.specs.Terms.{Bytes}
 use Rattle.sig_io.specs.Causes.{Rose}

@@ -1,5 +1,5 @@
 use Rattle.std.proofs.Common.{◌+◌, refl, arith, ◌∙◌}
-use Rattle.sigma_app.proofs.FileLaws.{got_step, got_end, got_all}
+use Rattle.sigma_app.proofs.FileLaws.{got_step, got_end}
 use Rattle.sigma_app.proofs.files.fetch_files.Goals as goal
 
 pub returns-in-Stopped-clause-found : goal.returns-in-Stopped-clause-found

@@ -1,12 +1,10 @@
-use Rattle.std.proofs.Common.{ℕ, List, map, subst, rules}
+use Rattle.std.proofs.Common.{List, map, subst}
 use Rattle.std.specs.Borrow.{Bor}
 use Rattle.kif_tree.specs.Terms.{Bytes}
-use Rattle.sigma_app.specs.declared.files.Part.{Part}
-use Rattle.sigma_app.specs.declared.files.Fetching.TheVariants.{Found, Stopped}
+use Rattle.sigma_app.specs.declared.files.Fetching.TheVariants.{Found}
 use Rattle.sigma_app.specs.Requests.{asked_value}
-use Rattle.sigma_app.specs.Tool.{OnParts}
 use Rattle.sigma_app.specs.Run.{Fetches}
-use Rattle.sigma_app.proofs.ToolLaws.{found_short, found_few, files_found, files_stopped}
+use Rattle.sigma_app.proofs.ToolLaws.{found_short, found_few, files_found}
 use Rattle.sigma_app.proofs.tool.files_reply.Goals as goal
 
 pub parts_reply-requires-clause-short : goal.parts_reply-requires-clause-short

@@ -1,8 +1,7 @@
-use Rattle.std.proofs.Common.{◌≡◌, true, sym, subst, rules}
+use Rattle.std.proofs.Common.{true, sym, subst, rules}
 use Rattle.sigma_base.specs.Lists.{Each}
 use Rattle.kif_tree.specs.Terms.{Bytes}
 use Rattle.kif_tree.specs.declared.form.Form.{Form}
-use Rattle.sigma_app.specs.Plain.{IsPlainAtom}
 use Rattle.sigma_app.specs.Requests.{asked_value}
 use Rattle.sigma_app.specs.Tool.{IsPlainFact, SpellsQuery}
 use Rattle.sigma_app.proofs.PlainLaws.{flat_atom}
