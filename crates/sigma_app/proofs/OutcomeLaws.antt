@@ -19,8 +19,8 @@ use Rattle.kif_reader.specs.declared.kinds.ReadError.{ReadError}
 use Rattle.kif_reader.specs.declared.kinds.ReadError.TheVariants as unread
 use Rattle.kif_reader.proofs.OneFaultLaws.{spells_no_fault, fault_unique}
 use Rattle.sigma_app.specs.declared.files.Part.{Part}
-use Rattle.sigma_app.specs.Requests.{Asked, Meaning, asks, checks, gives_clauses, exports, drills, IsTaken, is_refused}
-use Rattle.sigma_app.proofs.RequestLaws.{means_one}
+use Rattle.sigma_app.specs.Requests.{Asked, Meaning, asks, checks, gives_clauses, exports, drills, IsTaken, NamesNone, is_refused}
+use Rattle.sigma_app.proofs.RequestLaws.{means_one, nothing_meant}
 use Rattle.sigma_app.specs.Files.{Contents, byte_limit, IsWhole, AreWhole, IsReached, live_size, SpellParts}
 use Rattle.sigma_app.specs.Matching.{Fits, IsFirstMatch, value_pair, binding}
 use Rattle.sigma_app.specs.Proof.{values, lines_of}
@@ -312,3 +312,7 @@ tool_one words contents status other text page (inl a) (inl b) = inl (has_one wo
 tool_one words contents status other text page (inl a) (inr b) = inr (b.not_taken, inr b.is)
 tool_one words contents status other text page (inr a) (inl b) = inr (a.not_taken, inl a.is)
 tool_one words contents status other text page (inr a) (inr b) = inl (is_one 2 usage status other text page a.is b.is)
+
+pub others_usage : (words : List Bytes) (contents : Contents) (status : ℕ) (text : Bytes) → NamesNone words → Tool words contents status text → Is 2 usage status text
+others_usage words contents status text none (inl has) = let no_way : None ≡ Some has.meaning = sym (nothing_meant words none) ∙ has.means in absurd (cc)
+others_usage words contents status text none (inr not_taken) = not_taken.is

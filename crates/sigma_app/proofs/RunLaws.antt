@@ -1,5 +1,5 @@
 -- What the parts of a run of the tool say of the whole run.
-use Rattle.std.proofs.Common.{◌≡◌, ℕ, nat_eq, List, length, Bool, true, false, not, ◌||◌, nat_le, Option, ◌⊎◌, inl, inr, refl, sym, ap, ◌∙◌, subst, arith}
+use Rattle.std.proofs.Common.{◌≡◌, ℕ, nat_eq, List, length, Bool, true, false, not, ◌&&◌, ◌||◌, nat_le, Option, ◌⊎◌, inl, inr, refl, sym, ap, ◌∙◌, subst, arith}
 use Rattle.std.specs.Prelude.{MatchBool}
 use Rattle.std.proofs.lemmas.Bool.{false≢true}
 use Rattle.kif_tree.specs.declared.form.Form.{Form}
@@ -9,9 +9,9 @@ use Rattle.sig_io.specs.Causes.{Rose}
 use Rattle.sigma_app.specs.declared.files.Part.{Part}
 use Rattle.sigma_app.specs.Requests.{Asked, Meaning, asks, checks, gives_clauses, exports, drills, is_refused}
 use Rattle.sigma_app.specs.Files.{Contents, live_size}
-use Rattle.sigma_app.specs.Tool.{Is, usage, not_built, live_text, many_text, live_limit, file_limit, has_option, Shows, OnForms, OnTexts, OnParts, OnFiles, OnAsked, OnBuilt, Tool, GivesTool}
+use Rattle.sigma_app.specs.Tool.{Is, usage, not_built, live_text, many_text, live_limit, file_limit, has_option, reads_files, Shows, OnForms, OnTexts, OnParts, OnFiles, OnAsked, OnBuilt, Tool, GivesTool}
 use Rattle.sigma_app.proofs.EvidenceLaws.{shows_proof}
-use Rattle.sigma_app.specs.Run.{IsTrouble, IsCutShort, MayBeRefused, MustBeRefused, Appends, ReportsFault, AppendsPrefix, IsOwnReply, Obtains, Printed}
+use Rattle.sigma_app.specs.Run.{IsTrouble, IsCutShort, MayBeRefused, MustBeRefused, Appends, ReportsFault, AppendsPart, IsOwnReply, IsFaultReply, Obtains, PrintsPart, Printed}
 
 -- ---- the statuses of the tool itself
 
@@ -103,6 +103,14 @@ judged words contents status text (inl has) = by_test (is_refused has.meaning) r
         record { is_own = own.is_own; refuses = λ two. absurd (own.not_refused two); refused = λ must. absurd (false≢true (sym e ∙ must has.meaning has.means)) }
 judged words contents status text (inr none) = record { is_own = two_own status none.is.done; refuses = λ two. inl none.not_taken; refused = λ must. none.is.done }
 
+-- words whose files are read are not refused
+read_good : (asked : Asked) → reads_files (asks asked) ≡ true → is_refused (asks asked) ≡ false
+read_good asked h = by_test (is_refused (asks asked)) h
+  where
+    by_test : (refused : Bool) → (not refused && (not (has_option asked) && nat_le (length asked.paths) file_limit)) ≡ true → refused ≡ false
+    by_test true e = absurd (false≢true e)
+    by_test false e = refl
+
 -- ---- the whole run
 
 module _ (words : List Bytes) (told : Option Contents) (before now status : ℕ) (text : Bytes) (old new : Option Bytes) (sink_before sink_now result : ℕ) where
@@ -134,15 +142,25 @@ module _ (words : List Bytes) (told : Option Contents) (before now status : ℕ)
   cut_four four e (inl eight) = omega arith
   cut_four four e (inr nine) = omega arith
 
-  pub prefix : Obtains words told before now status text → Printed status text old new sink_before sink_now result → IsCutShort result → AppendsPrefix words told before now old new
-  prefix (inl reply) (inl all) cut = absurd (cut_own (judge reply).is_own all.is cut)
-  prefix (inr reply) (inl all) cut = absurd (cut_four reply.four all.is cut)
-  prefix (inl reply) (inr part) cut = inr (
+  part_of : Obtains words told before now status text → PrintsPart text old new sink_before sink_now result → AppendsPart words told before now old new
+  part_of (inl reply) part = (
     text,
     record { status = status; either = inl (record { gives = reply.gives; proved = λ zero_is. shows_proof words reply.gives.contents status text zero_is reply.gives.tool }, reply.quiet) },
     part.prefix,
   )
-  prefix (inr reply) (inr part) cut = inr (text, record { status = status; either = inr ((reply.four, reply.names), reply.rose) }, part.prefix)
+  part_of (inr reply) part = (text, record { status = status; either = inr ((reply.four, reply.names), reply.rose) }, part.prefix)
+
+  pub cut_short : Obtains words told before now status text → Printed status text old new sink_before sink_now result → IsCutShort result → AppendsPart words told before now old new
+  cut_short (inl reply) (inl all) cut = absurd (cut_own (judge reply).is_own all.is cut)
+  cut_short (inr reply) (inl all) cut = absurd (cut_four reply.four all.is cut)
+  cut_short reply (inr part) cut = part_of reply part
+
+  pub write_prefix : Obtains words told before now status text → Printed status text old new sink_before sink_now result → result ≡ 8 → AppendsPart words told before now old new
+  write_prefix reply printed eight = cut_short reply printed (inl eight)
+
+  pub memory_prefix : Obtains words told before now status text → Printed status text old new sink_before sink_now result → result ≡ 9
+      → (new ≡ old) ⊎ AppendsPart words told before now old new
+  memory_prefix reply printed nine = inr (cut_short reply printed (inr nine))
 
   pub usage_only : Obtains words told before now status text → Printed status text old new sink_before sink_now result → result ≡ 2 → MayBeRefused words
   usage_only (inl reply) (inl all) two = (judge reply).refuses (sym all.is ∙ two)
@@ -156,7 +174,7 @@ module _ (words : List Bytes) (told : Option Contents) (before now status : ℕ)
   pub refused : Obtains words told before now status text → Printed status text old new sink_before sink_now result → MustBeRefused words → (result ≡ 2) ⊎ IsCutShort result
   refused (inl reply) (inl all) must = inl (all.is ∙ (judge reply).refused must)
   refused (inr reply) (inl all) must =
-      let fault = reply.names.fault in absurd (false≢true (sym fault.good ∙ must (asks fault.asked) fault.means))
+      let fault = reply.names.fault in absurd (false≢true (sym (read_good fault.asked fault.reads) ∙ must (asks fault.asked) fault.means))
   refused reply (inr part) must = inr (trouble part.cause)
 
   pub file_fault : Obtains words told before now status text → Printed status text old new sink_before sink_now result → result ≡ 4 → ReportsFault words told before now old new

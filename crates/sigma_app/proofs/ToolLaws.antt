@@ -1,9 +1,11 @@
 -- How a reply is put together, and why it is the tool's.
-use Rattle.std.proofs.Common.{◌≡◌, ℕ, ◌<◌, ◌⊎◌, List, [], ◌++◌, map, length, get_or, Bool, true, false, nat_le, Option, Some, None, Result, Ok, Err, codes, ◌≤◌, inl, inr, refl, sym, ap, ap₂, ◌∙◌, subst, arith}
+use Rattle.std.proofs.Common.{◌≡◌, ℕ, ◌<◌, ◌⊎◌, List, [], ◌++◌, map, length, get_or, Bool, true, false, not, ◌&&◌, nat_le, Option, Some, None, Result, Ok, Err, codes, ◌≤◌, inl, inr, refl, sym, ap, ap₂, ◌∙◌, subst, arith}
 use Rattle.std.specs.Prelude.{slice_get, IfOk, MatchBool}
 use Rattle.std.specs.Borrow.{Bor}
 use Rattle.std.proofs.lemmas.Option.{slice_get_read}
 use Rattle.std.proofs.lemmas.List.{length-map}
+use Rattle.sig_io.specs.Causes.{Rose}
+use Rattle.std.proofs.lemmas.Bool.{false≢true}
 use Rattle.std.proofs.lemmas.Bool.Decides.{nat_tests}
 use Rattle.sigma_base.specs.Lists.{Each, map_twice}
 use Rattle.kif_tree.specs.declared.form.Form.{Form}
@@ -23,8 +25,8 @@ use Rattle.sigma_base.specs.declared.memory.NoMemory.{NoMemory}
 use Rattle.sigma_app.specs.Requests.{Asked, asked_value, texts, Meaning, asks, checks, gives_clauses, exports, drills, Means, IsTaken, is_refused}
 use Rattle.sigma_app.specs.Plain.{IsPlainAtom}
 use Rattle.sigma_app.specs.Files.{Contents, AreWhole, AreShort, live_size, load_names, SpellParts}
-use Rattle.sigma_app.specs.Tool.{Is, usage, not_built, live_text, many_text, live_limit, file_limit, has_option, found_page, Shows, SpellsQuery, IsPlainFact, IsPlain, OnForms, OnTexts, OnParts, IsAbsent, IsTooLong, OnFiles, OnAsked, OnBuilt, HasMeaning}
-use Rattle.sigma_app.specs.Run.{Over, Fetches, OnAskFiles, OnAsk, OnGoodRequest, OnRequest, Obtains}
+use Rattle.sigma_app.specs.Tool.{Is, usage, not_built, live_text, many_text, live_limit, file_limit, has_option, reads_files, found_page, Shows, SpellsQuery, IsPlainFact, IsPlain, OnForms, OnTexts, OnParts, IsAbsent, IsTooLong, OnFiles, OnAsked, OnBuilt, HasMeaning}
+use Rattle.sigma_app.specs.Run.{Over, Fails, Fetches, OnAskFiles, OnAsk, OnGoodRequest, OnRequest, Obtains}
 use Rattle.sigma_app.proofs.FileLaws.{whole_short, whole_length}
 
 abbrev pub term_of : Pair → Form
@@ -107,34 +109,44 @@ any_over : (told : Option Contents) (P : Contents → Type 0) → ((contents : C
 any_over (Some files) P h = record { contents = files; agrees = refl; holds = h files }
 any_over None P h = record { contents = []; agrees = tt; holds = h [] }
 
-abbrev By : Bool → Bool → Asked → Contents → ℕ → Bytes → Type 0
-By option few asked contents status text = MatchBool option (Is 10 not_built status text) (MatchBool few (OnFiles asked contents status text) (Is 6 (many_text (length asked.paths)) status text))
-
 abbrev pub few_paths : Asked → Bool
 few_paths asked = nat_le (length asked.paths) file_limit
+
+abbrev By : Bool → Bool → Asked → Contents → ℕ → Bytes → Type 0
+By option few asked contents status text = MatchBool option (Is 10 not_built status text) (MatchBool few (OnFiles asked contents status text) (Is 6 (many_text (length asked.paths)) status text))
 
 by_tests : (asked : Asked) (option few : Bool) (contents : Contents) (status : ℕ) (text : Bytes) → has_option asked ≡ option → few_paths asked ≡ few → By option few asked contents status text → OnAsked asked contents status text
 by_tests asked option few contents status text e f h =
     subst (λ (b : Bool). By b (few_paths asked) asked contents status text) (sym e) (subst (λ (b : Bool). By option b asked contents status text) (sym f) h)
 
+abbrev Asking : Bool → Bool → Asked → Option Contents → ℕ → ℕ → ℕ → Bytes → Type 0
+Asking option few asked told before now status text =
+    MatchBool option ((now ≡ before) × Is 10 not_built status text)
+    (MatchBool few (OnAskFiles asked told before now status text) ((now ≡ before) × Is 6 (many_text (length asked.paths)) status text))
+
+asking : (asked : Asked) (option few : Bool) (told : Option Contents) (before now status : ℕ) (text : Bytes) → has_option asked ≡ option → few_paths asked ≡ few
+    → Asking option few asked told before now status text → OnAsk asked told before now status text
+asking asked option few told before now status text e f h =
+    subst (λ (b : Bool). Asking b (few_paths asked) asked told before now status text) (sym e) (subst (λ (b : Bool). Asking option b asked told before now status text) (sym f) h)
+
 pub ask_option : (asked : Asked) (told : Option Contents) (count : ℕ) → has_option asked ≡ true
     → (r : Replied) → IfOk r (λ reply. Is 10 not_built reply.status reply.text) → IfOk r (λ reply. OnAsk asked told count count reply.status reply.text)
-ask_option asked told count e (Ok reply) is =
-    inl (refl, any_over told (λ contents. OnAsked asked contents reply.status reply.text) (λ contents. by_tests asked true (few_paths asked) contents reply.status reply.text e refl is))
+ask_option asked told count e (Ok reply) is = asking asked true (few_paths asked) told count count reply.status reply.text e refl (refl, is)
 ask_option asked told count e (Err error) is = tt
 
 pub ask_many : (asked : Asked) (told : Option Contents) (count : ℕ) → has_option asked ≡ false → few_paths asked ≡ false
     → (r : Replied) → IfOk r (λ reply. Is 6 (many_text (length asked.paths)) reply.status reply.text) → IfOk r (λ reply. OnAsk asked told count count reply.status reply.text)
-ask_many asked told count e f (Ok reply) is =
-    inl (refl, any_over told (λ contents. OnAsked asked contents reply.status reply.text) (λ contents. by_tests asked false false contents reply.status reply.text e f is))
+ask_many asked told count e f (Ok reply) is = asking asked false false told count count reply.status reply.text e f (refl, is)
 ask_many asked told count e f (Err error) is = tt
 
 pub ask_files : (asked : Asked) (told : Option Contents) (before now : ℕ) → has_option asked ≡ false → few_paths asked ≡ true
     → (r : Replied) → IfOk r (λ reply. OnAskFiles asked told before now reply.status reply.text) → IfOk r (λ reply. OnAsk asked told before now reply.status reply.text)
-ask_files asked told before now e f (Ok reply) (inl (quiet, over)) =
-    inl (quiet, record { contents = over.contents; agrees = over.agrees; holds = by_tests asked false true over.contents reply.status reply.text e f over.holds })
-ask_files asked told before now e f (Ok reply) (inr failed) = inr failed
+ask_files asked told before now e f (Ok reply) h = asking asked false true told before now reply.status reply.text e f h
 ask_files asked told before now e f (Err error) h = tt
+
+-- files are read where nothing is in the way
+reads : (asked : Asked) → is_refused (asks asked) ≡ false → has_option asked ≡ false → few_paths asked ≡ true → reads_files (asks asked) ≡ true
+reads asked good option few = λ i. not (good i) && (not (option i) && few i)
 
 -- ---- a request
 
@@ -210,25 +222,41 @@ obtains words meaning told before now means (Ok reply) h = by_test (is_refused m
     plainly P f over quiet = own (record { contents = over.contents; agrees = over.agrees; holds = f over.contents over.holds }) quiet
 
     good : (m : Meaning) → meaning ≡ m → is_refused meaning ≡ false → OnGoodRequest m told before now reply.status reply.text → Obtains words told before now reply.status reply.text
-    good (asks asked) e f (inl (quiet, over)) =
-        plainly (λ contents. OnAsked asked contents reply.status reply.text)
-        (λ contents h. meant false contents f (subst (λ (m : Meaning). OnBuilt m contents reply.status reply.text) (sym e) h)) over quiet
-    good (asks asked) e f (inr (rose, failed)) = inr (record {
-      rose = rose;
-      four = failed.is.done;
-      names = record {
-        contents = failed.reached.contents;
-        agrees = failed.reached.agrees;
-        fault = record {
-          asked = asked;
-          means = subst (Means words) e means;
-          good = ap is_refused (sym e) ∙ f;
-          path = failed.path;
-          reached = failed.reached.holds;
-          page = failed.is.page_is;
-        };
-      };
-    })
+    good (asks asked) e f h = by_option (has_option asked) (few_paths asked) refl refl h
+      where
+        found : (option few : Bool) → has_option asked ≡ option → few_paths asked ≡ few → (P : Contents → Type 0)
+            → ((contents : Contents) → P contents → By option few asked contents reply.status reply.text) → Over told P → now ≡ before
+            → Obtains words told before now reply.status reply.text
+        found option few o w P make over quiet =
+            plainly P
+            (λ contents p.
+            meant false contents f
+            (subst (λ (m : Meaning). OnBuilt m contents reply.status reply.text) (sym e) (by_tests asked option few contents reply.status reply.text o w (make contents p)))) over quiet
+
+        failed_at : has_option asked ≡ false → few_paths asked ≡ true → Rose before now → Fails asked.paths told reply.status reply.text → Obtains words told before now reply.status reply.text
+        failed_at o w rose failed = inr (record {
+          rose = rose;
+          four = failed.is.done;
+          names = record {
+            contents = failed.reached.contents;
+            agrees = failed.reached.agrees;
+            fault = record {
+              asked = asked;
+              means = subst (Means words) e means;
+              reads = reads asked (ap is_refused (sym e) ∙ f) o w;
+              path = failed.path;
+              reached = failed.reached.holds;
+              page = failed.is.page_is;
+            };
+          };
+        })
+
+        by_option : (option few : Bool) → has_option asked ≡ option → few_paths asked ≡ few → Asking option few asked told before now reply.status reply.text
+            → Obtains words told before now reply.status reply.text
+        by_option true few o w (quiet, is) = found true few o w (λ contents. Unit {0}) (λ contents p. is) (any_over told (λ contents. Unit {0}) (λ contents. tt)) quiet
+        by_option false true o w (inl (quiet, over)) = found false true o w (λ contents. OnFiles asked contents reply.status reply.text) (λ contents p. p) over quiet
+        by_option false true o w (inr (rose, failed)) = failed_at o w rose failed
+        by_option false false o w (quiet, is) = found false false o w (λ contents. Unit {0}) (λ contents p. is) (any_over told (λ contents. Unit {0}) (λ contents. tt)) quiet
     good (checks paths) e f (quiet, is) = plainly (λ contents. Unit {0}) (λ contents h. meant false contents f (subst (λ (m : Meaning). OnBuilt m contents reply.status reply.text) (sym e) is)) (any_over told (λ contents. Unit {0}) (λ contents. tt)) quiet
     good (gives_clauses paths) e f (quiet, is) = plainly (λ contents. Unit {0}) (λ contents h. meant false contents f (subst (λ (m : Meaning). OnBuilt m contents reply.status reply.text) (sym e) is)) (any_over told (λ contents. Unit {0}) (λ contents. tt)) quiet
     good (exports paths) e f (quiet, is) = plainly (λ contents. Unit {0}) (λ contents h. meant false contents f (subst (λ (m : Meaning). OnBuilt m contents reply.status reply.text) (sym e) is)) (any_over told (λ contents. Unit {0}) (λ contents. tt)) quiet

@@ -31,7 +31,7 @@ option_rule name parser = record (new_rule name) { long = Some name; action = So
 abbrev pub up_to : ℕ → ValueParser
 up_to most = vp.Signed (pos 1) (pos most)
 
--- a value behind a reference, of which only the value tells
+-- a value behind a reference; the address is any, and nothing depends on it
 abbrev pub lent : {X : Type 0} → X → Bor X
 lent x = record { ref_ptr = (0, 0); now = x }
 

@@ -12,7 +12,7 @@ use Rattle.sigma_app.specs.declared.files.Part.{Part}
 abbrev pub Contents : Type 0
 Contents = List (Bytes × Bytes)
 
--- the greatest number of bytes of a file, and of a query
+-- the greatest number of bytes of a file
 abbrev pub byte_limit : ℕ
 byte_limit = 8388608
 

@@ -4,7 +4,7 @@ use Rattle.kif_tree.specs.declared.form.Form.{Form}
 use Rattle.kif_tree.specs.Terms.{Bytes, is_ground, has_no_row}
 use Rattle.kif_tree.specs.Clauses.{is_headed}
 use Rattle.sigma_app.specs.Plain.{is_plain_head, IsPlainAtom}
-use Rattle.sigma_app.specs.Requests.{IsTaken}
+use Rattle.sigma_app.specs.Requests.{IsTaken, NamesNone}
 use Rattle.sigma_app.specs.Files.{Contents}
 use Rattle.sigma_app.specs.Tool.{Is, usage, Tool}
 
@@ -17,6 +17,10 @@ abbrev pub ToolIsOne : Type 0
 ToolIsOne = (words : List Bytes) (contents : Contents) (status other : ℕ) (text page : Bytes)
     → Tool words contents status text → Tool words contents other page
     → SameOutcome status other text page ⊎ ((IsTaken words → ⊥) × (Is 2 usage status text ⊎ Is 2 usage other page))
+
+-- where there is no word, or the first names no command, the usage is the one outcome
+abbrev pub OthersGetUsage : Type 0
+OthersGetUsage = (words : List Bytes) (contents : Contents) (status : ℕ) (text : Bytes) → NamesNone words → Tool words contents status text → Is 2 usage status text
 
 -- no variable and no row variable occurs in a plain fact
 abbrev pub FactsAreGround : Type 0

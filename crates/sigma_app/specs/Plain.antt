@@ -1,4 +1,4 @@
--- Plain atoms: the facts and queries that are answered today.
+-- Plain atoms: the facts and queries that the tool answers.
 use Rattle.std.specs.Prelude.{◌≡◌, nat_eq, Bool, true, false, not, ◌&&◌, ◌||◌, ◌⊎◌, List, [], ◌∷◌, codes}
 use Rattle.std.specs.List.{list_all, ends_with}
 use Rattle.std.specs.Char.{is_ascii_alphabetic}

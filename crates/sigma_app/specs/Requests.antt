@@ -65,7 +65,8 @@ unfoldable pub meaning : List Bytes → Option Meaning
 meaning [] = None
 meaning (word ∷ rest) = option_and_then (λ name. meaning_by name (matches_of (app name) rest)) (named word)
 
--- the first word names a command, and the parser promises to take the others
+-- The first word names a command, and the parser promises to take the others: `takes` is its own statement, and words that it
+-- takes are refused for want of memory alone.
 unfoldable pub is_taken : List Bytes → Bool
 is_taken [] = false
 is_taken (word ∷ rest) = option_map_or (λ name. takes (app name) rest) (named word) false
@@ -86,9 +87,13 @@ paths (gives_clauses files) = files
 paths (exports files) = files
 paths (drills size) = []
 
+-- the greatest number of bytes of a query
+abbrev pub query_limit : ℕ
+query_limit = 8388608
+
 -- the query has more bytes than its limit
 abbrev pub is_long : Meaning → Bool
-is_long (asks asked) = nat_lt 8388608 (length asked.query)
+is_long (asks asked) = nat_lt query_limit (length asked.query)
 is_long (checks files) = false
 is_long (gives_clauses files) = false
 is_long (exports files) = false

@@ -1,5 +1,5 @@
 -- What a run of the tool leaves: the status, the bytes that were appended and the counts of faults.
-use Rattle.std.specs.Prelude.{◌≡◌, ℕ, ◌<◌, ◌≤◌, true, List, length, Option, Some, None, IfSome, MatchBool, ◌⊎◌}
+use Rattle.std.specs.Prelude.{◌≡◌, ℕ, ◌<◌, ◌≤◌, true, List, length, nat_le, Option, Some, None, IfSome, MatchBool, ◌⊎◌, false}
 use Rattle.std.specs.Io.KnownBytes.{append_known}
 use Rattle.kif_tree.specs.Terms.{Bytes}
 use Rattle.sig_io.specs.Causes.{Rose}
@@ -11,7 +11,7 @@ use Rattle.sigma_app.specs.declared.files.Fetching.TheVariants.{Found, Stopped}
 use Rattle.sigma_app.specs.Requests.{Asked, Meaning, asks, checks, gives_clauses, exports, drills, Means, IsTaken, is_refused}
 use Rattle.sigma_app.specs.Files.{Contents, byte_limit, AreWhole, IsReached}
 use Rattle.sigma_app.specs.Evidence.{ShowsProof}
-use Rattle.sigma_app.specs.Tool.{Is, usage, not_built, absent_text, long_text, fault_text, IsAbsent, IsTooLong, OnFiles, OnAsked, Agrees, GivesTool, IsFault}
+use Rattle.sigma_app.specs.Tool.{Is, usage, not_built, many_text, file_limit, has_option, reads_files, absent_text, long_text, fault_text, IsAbsent, IsTooLong, OnFiles, OnAsked, Agrees, GivesTool, IsFault}
 
 -- a status that tells of the outside or of memory: a fault of the files, a failed write, want of memory
 abbrev pub IsTrouble : ℕ → Type 0
@@ -28,6 +28,10 @@ MayBeRefused words = (IsTaken words → ⊥) ⊎ ((meaning : Meaning) × Means w
 -- the words have to be refused: they have no meaning that isn't
 abbrev pub MustBeRefused : List Bytes → Type 0
 MustBeRefused words = (meaning : Meaning) → Means words meaning → is_refused meaning ≡ true
+
+-- what the words mean, if anything, has no file read
+abbrev pub NeedsNoFile : List Bytes → Type 0
+NeedsNoFile words = (meaning : Meaning) → Means words meaning → reads_files meaning ≡ false
 
 -- The status and the text are the tool's for contents that agree with those told, and where an answer is shown, so is a proof over these
 -- contents. The whole text was appended.
@@ -62,9 +66,9 @@ pub record IsMeant (words : List Bytes) (told : Option Contents) (before now : �
   pub status : ℕ
   pub either : (IsOwnText words told status text × (now ≡ before)) ⊎ (((status ≡ 4) × IsFaultText words told text) × Rose before now)
 
--- nothing was appended, or a prefix of a text of another status
-abbrev pub AppendsPrefix : List Bytes → Option Contents → ℕ → ℕ → Option Bytes → Option Bytes → Type 0
-AppendsPrefix words told before now old new = (new ≡ old) ⊎ ((text : Bytes) × IsMeant words told before now text × WritesPrefix old new text)
+-- a prefix of a text of another status was appended
+abbrev pub AppendsPart : List Bytes → Option Contents → ℕ → ℕ → Option Bytes → Option Bytes → Type 0
+AppendsPart words told before now old new = (text : Bytes) × IsMeant words told before now text × WritesPrefix old new text
 
 -- ---- the parts of a run
 
@@ -102,11 +106,14 @@ Fetches paths told before now (Stopped reply) =
     OnFetches paths told before now (λ contents. IsAbsent contents paths reply.status reply.text ⊎ IsTooLong contents paths reply.status reply.text) reply.status reply.text
 
 -- a query over files
-abbrev pub OnAsk : Asked → Option Contents → ℕ → ℕ → ℕ → Bytes → Type 0
-OnAsk asked told before now status text = OnFetches asked.paths told before now (λ contents. OnAsked asked contents status text) status text
-
 abbrev pub OnAskFiles : Asked → Option Contents → ℕ → ℕ → ℕ → Bytes → Type 0
 OnAskFiles asked told before now status text = OnFetches asked.paths told before now (λ contents. OnFiles asked contents status text) status text
+
+-- nothing is fetched where an option is given or the files are too many
+abbrev pub OnAsk : Asked → Option Contents → ℕ → ℕ → ℕ → Bytes → Type 0
+OnAsk asked told before now status text =
+    MatchBool (has_option asked) ((now ≡ before) × Is 10 not_built status text)
+    (MatchBool (nat_le (length asked.paths) file_limit) (OnAskFiles asked told before now status text) ((now ≡ before) × Is 6 (many_text (length asked.paths)) status text))
 
 -- a request whose words are good
 abbrev pub OnGoodRequest : Meaning → Option Contents → ℕ → ℕ → ℕ → Bytes → Type 0

@@ -1,5 +1,5 @@
 -- What the tool answers: a status and a text, from the words and what the files hold.
-use Rattle.std.specs.Prelude.{◌≡◌, ℕ, nat_le, Bool, true, false, ◌||◌, List, [], ◌∷◌, ◌++◌, length, Option, Some, None, is_some, MatchBool, IfSome, codes, decimal, ◌⊎◌}
+use Rattle.std.specs.Prelude.{◌≡◌, ℕ, nat_le, Bool, true, false, ◌||◌, List, [], ◌∷◌, ◌++◌, length, Option, Some, None, is_some, MatchBool, IfSome, codes, decimal, ◌⊎◌, not, ◌&&◌}
 use Rattle.sigma_base.specs.Lists.{Each}
 use Rattle.kif_tree.specs.declared.form.Form.{Form}
 use Rattle.kif_tree.specs.declared.place.Located.{Located}
@@ -224,6 +224,14 @@ OnAsked asked contents status text =
     MatchBool (has_option asked) (Is 10 not_built status text)
     (MatchBool (nat_le (length asked.paths) file_limit) (OnFiles asked contents status text) (Is 6 (many_text (length asked.paths)) status text))
 
+-- what the words mean has files read: a query that isn't refused, without options and over files that are few enough
+abbrev pub reads_files : Meaning → Bool
+reads_files (asks asked) = not (is_refused (asks asked)) && (not (has_option asked) && nat_le (length asked.paths) file_limit)
+reads_files (checks paths) = false
+reads_files (gives_clauses paths) = false
+reads_files (exports paths) = false
+reads_files (drills size) = false
+
 -- the other commands are not built
 abbrev pub OnBuilt : Meaning → Contents → ℕ → Bytes → Type 0
 OnBuilt (asks asked) contents status text = OnAsked asked contents status text
@@ -251,11 +259,11 @@ pub record AreNotTaken (words : List Bytes) (status : ℕ) (text : Bytes) : Type
 abbrev pub Tool : List Bytes → Contents → ℕ → Bytes → Type 0
 Tool words contents status text = HasMeaning words contents status text ⊎ AreNotTaken words status text
 
--- the text where a file could not be fetched, before which all files are whole
+-- the text where files are read and one could not be fetched, before which all are whole
 pub record IsFault (words : List Bytes) (contents : Contents) (text : Bytes) : Type 0 where
   pub asked : Asked
   pub means : Means words (asks asked)
-  pub good : is_refused (asks asked) ≡ false
+  pub reads : reads_files (asks asked) ≡ true
   pub path : Bytes
   pub reached : IsReached contents asked.paths path
   pub page : text ≡ fault_text path

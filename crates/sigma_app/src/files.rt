@@ -11,7 +11,7 @@ use sig_io::{FetchError, Fetched, Files};
 use sigma_base::{Listed, NoMemory};
 use std::alloc::Global;
 
-/// The greatest number of bytes of a file, and of a query.
+/// The greatest number of bytes of a file.
 pub const BYTE_LIMIT: usize = 8_388_608;
 
 /// The text of a file, with the path as its name and the file's position, from 1, as its number.

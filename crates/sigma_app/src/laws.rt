@@ -5,7 +5,8 @@ ghost use Rattle.sigma_app.specs.Requests as requests;
 /// The tool gives one status and one text for the same words and files. For words that the promise of the parser of command lines doesn't
 /// take, the other outcome is the usage.
 pub fn one_outcome_law()
-    ensures { laws.ToolIsOne }
+    ensures one { laws.ToolIsOne }
+    ensures others { laws.OthersGetUsage }
 {}
 
 /// What is plain has nothing that the layers above treat in another way: facts are ground, no row variable occurs, and no

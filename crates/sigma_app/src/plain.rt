@@ -1,4 +1,4 @@
-//! Plain atoms: the facts and queries that are answered today.
+//! Plain atoms: the facts and queries that the tool answers.
 ghost use Rattle.std.specs.Prelude.{◌≡◌, ◌↔◌, IsTrue, All};
 ghost use Rattle.std.specs.List.{list_all};
 ghost use Rattle.sigma_base.specs.Lists.{Each};

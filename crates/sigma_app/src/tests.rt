@@ -117,7 +117,7 @@ fn shows_the_first_fact_that_answers(rt: HostRuntime) -> Result<(), Fail> {
                 "answer 1\n  ?X = a\nproof\n  1. (p a) [facts.kif:4:1]\n  2. (or (not (p ?X1)) (!answer ?X1)) [query]\n  3. (!answer a) [resolve 1 2]\nend enough turns 1\n",
             ),
             quiet(
-                &["ask", " (p\ta) ; sure?", "facts.kif"],
+                &["ask", "\u{feff} (p\ta) ; sure?", "facts.kif"],
                 &[("facts.kif", "\u{feff}(p\r\n a)")],
                 0,
                 "answer 1\n  yes\nproof\n  1. (p a) [facts.kif:1:4]\n  2. (or (not (p a)) (!answer)) [query]\n  3. (!answer) [resolve 1 2]\nend enough turns 1\n",
@@ -315,6 +315,12 @@ fn refuses_other_words(rt: HostRuntime) -> Result<(), Fail> {
             ),
             quiet(&["ask", "(p a)", "a.kif", "b.kif", "a.kif"], FACT, 2, USAGE),
             quiet(&["check", "b.kif", "b.kif"], FACT, 2, USAGE),
+            quiet(
+                &["ask", "--turns", "5", "(p a)", "a.kif", "a.kif"],
+                FACT,
+                2,
+                USAGE,
+            ),
             quiet(&["asks", "(p a)", "a.kif"], FACT, 2, USAGE),
             quiet(&["ask", "-p", "a.kif"], FACT, 2, USAGE),
         ],
@@ -356,6 +362,52 @@ fn tells_what_the_outside_refused(rt: HostRuntime) -> Result<(), Fail> {
     Ok(())
 }
 
+#[test]
+fn fetches_nothing_where_the_words_need_no_file(rt: HostRuntime) -> Result<(), Fail> {
+    let first: &'static [u64] = &[1];
+    check_all(
+        &rt,
+        rt.alloc(),
+        &[
+            failing(
+                &["ask", "--kept", "9", "(p a)", "a.kif"],
+                TWO,
+                first,
+                &[],
+                10,
+                "not built\n",
+            ),
+            failing(&["check", "a.kif"], TWO, first, &[], 10, "not built\n"),
+            failing(
+                &["export", "a.kif", "b.kif"],
+                TWO,
+                first,
+                &[],
+                10,
+                "not built\n",
+            ),
+            failing(&["drill", "1"], TWO, first, &[], 10, "not built\n"),
+            failing(
+                &["ask", "(p a)", "a.kif", "a.kif"],
+                TWO,
+                first,
+                &[],
+                2,
+                USAGE,
+            ),
+            failing(
+                &["ask", "(p a)", "a.kif", "--turns"],
+                TWO,
+                first,
+                &[],
+                2,
+                USAGE,
+            ),
+        ],
+    )?;
+    Ok(())
+}
+
 /// A sink that takes a byte at a time, and as many as there is room for.
 #[derive(Drop)]
 struct Drip {
@@ -387,8 +439,13 @@ impl Sink for Drip {
     }
 }
 
-fn cut_short(rt: &impl Abort, alloc: Global, room: u8) -> Result<(u8, Text), NoMemory> {
-    let run = quiet(ASK, TWO, 0, "");
+fn cut_short(
+    rt: &impl Abort,
+    alloc: Global,
+    failing_fetches: &'static [u64],
+    room: u8,
+) -> Result<(u8, Text), NoMemory> {
+    let run = failing(ASK, TWO, failing_fetches, &[], 0, "");
     let words = words_of(alloc, run.words)?;
     let mut files = files_of(rt, alloc, &run)?;
     let mut out = Drip {
@@ -402,22 +459,30 @@ fn cut_short(rt: &impl Abort, alloc: Global, room: u8) -> Result<(u8, Text), NoM
 
 #[test]
 fn prints_a_prefix_where_a_later_write_fails(rt: HostRuntime) -> Result<(), Fail> {
-    let (status, printed) = cut_short(&rt, rt.alloc(), 3)?;
-    assert_eq!(rt; status, 8);
-    assert_eq!(rt; printed.bytes(), b"end".as_slice());
-    let (status, printed) = cut_short(&rt, rt.alloc(), 22)?;
-    assert_eq!(rt; status, 1);
-    assert_eq!(rt; printed.bytes(), b"end saturated turns 1\n".as_slice());
+    let cases: [(&'static [u64], u8, u8, &[u8]); 4] = [
+        (&[], 0, 8, b""),
+        (&[], 3, 8, b"end"),
+        (&[], 22, 1, b"end saturated turns 1\n"),
+        (&[2], 4, 8, b"file"),
+    ];
+    for (failing_fetches, room, status, printed) in cases {
+        let (ended, text) = cut_short(&rt, rt.alloc(), failing_fetches, room)?;
+        assert_eq!(rt; ended, status);
+        assert_eq!(rt; text.bytes(), printed);
+    }
     Ok(())
 }
 
 /// So many spaces, by doubling.
-fn spaces(alloc: Global, length: usize) -> Result<Text, NoMemory> {
+fn spaces(rt: &impl Abort, alloc: Global, length: usize) -> Result<Text, NoMemory> {
     let mut text = Text::of(alloc, b" ")?;
-    while text.bytes().len() < length {
-        let so_far = text.copy(alloc)?;
-        text.append(so_far.bytes())?;
+    for _ in 0..24 {
+        if text.bytes().len() < length {
+            let so_far = text.copy(alloc)?;
+            text.append(so_far.bytes())?;
+        }
     }
+    assert!(rt; length <= text.bytes().len());
     let (front, _) = text.bytes().split_at(length);
     Text::of(alloc, front)
 }
@@ -446,7 +511,7 @@ fn over_spaces(
         words.push(expect_text(rt, &name))?;
         files.push(NamedFile {
             name,
-            body: spaces(alloc, *length)?,
+            body: spaces(rt, alloc, *length)?,
         })?;
     }
     assert!(rt; have_own_names(&files));
@@ -468,9 +533,14 @@ const FULL: usize = 8_388_608;
 #[test]
 fn keeps_the_limits(rt: HostRuntime) -> Result<(), Fail> {
     const NONE: &str = "end saturated turns 1\n";
-    let cases: [(&[usize], u8, &str); 5] = [
+    let cases: [(&[usize], u8, &str); 6] = [
         (&[FULL], 1, NONE),
         (&[0, FULL + 1, FULL + 1], 6, "limit file f2\n"),
+        (
+            &[FULL, FULL, FULL, FULL, FULL, FULL, FULL, FULL, FULL + 1],
+            6,
+            "limit file f9\n",
+        ),
         (
             &[FULL, FULL, FULL, FULL, FULL, FULL, FULL, FULL, 1],
             6,
@@ -489,10 +559,11 @@ fn keeps_the_limits(rt: HostRuntime) -> Result<(), Fail> {
 
 #[test]
 fn keeps_the_limit_of_a_query(rt: HostRuntime) -> Result<(), Fail> {
-    for (length, status) in [(FULL, 10), (FULL + 1, 2)] {
-        let query = spaces(rt.alloc(), length)?;
-        let (ended, _) = over_spaces(&rt, rt.alloc(), expect_text(&rt, &query), &[1])?;
+    for (length, status, printed) in [(FULL, 10, "not built\n"), (FULL + 1, 2, USAGE)] {
+        let query = spaces(&rt, rt.alloc(), length)?;
+        let (ended, text) = over_spaces(&rt, rt.alloc(), expect_text(&rt, &query), &[1])?;
         assert_eq!(rt; ended, status);
+        assert_eq!(rt; text.bytes(), printed.as_bytes());
     }
     Ok(())
 }

@@ -179,6 +179,7 @@ fn ask_reply<F: Files>(alloc: Global, ask: &Ask<'_>, files: &mut F) -> Result<Re
     ensures told { F.told files.new ≡ F.told files.old }
     ensures reply { IfOk result (λ reply. run.OnAsk (requests.asked_value ask.now) (F.told files.old) (F.faults files.old) (F.faults files.new) reply.status reply.text) }
     ensures cause { OnErr result (run.MayHaveRisen (F.faults files.old) (F.faults files.new)) }
+    ensures unfetched { spec.reads_files (requests.asks (requests.asked_value ask.now)) ≡ false → F.faults files.new ≡ F.faults files.old }
 {
     if has_option(ask) {
         return not_built(alloc);
@@ -199,7 +200,7 @@ fn request_reply<F: Files>(
     ensures told { F.told files.new ≡ F.told files.old }
     ensures reply { IfOk result (λ reply. run.OnRequest (requests.meaning_of request.now) (F.told files.old) (F.faults files.old) (F.faults files.new) reply.status reply.text) }
     ensures cause { OnErr result (run.MayHaveRisen (F.faults files.old) (F.faults files.new)) }
-    ensures unread { requests.is_refused (requests.meaning_of request.now) ≡ true → F.faults files.new ≡ F.faults files.old }
+    ensures unfetched { spec.reads_files (requests.meaning_of request.now) ≡ false → F.faults files.new ≡ F.faults files.old }
 {
     if is_refused(alloc, request)? {
         return usage(alloc);
@@ -214,7 +215,7 @@ fn reply_to<F: Files>(alloc: Global, words: &Words, files: &mut F) -> Result<Rep
     ensures told { F.told files.new ≡ F.told files.old }
     ensures reply { IfOk result (λ reply. run.Obtains words.now (F.told files.old) (F.faults files.old) (F.faults files.new) reply.status reply.text) }
     ensures cause { OnErr result (run.MayHaveRisen (F.faults files.old) (F.faults files.new)) }
-    ensures unread { run.MustBeRefused words.now → F.faults files.new ≡ F.faults files.old }
+    ensures unfetched { run.NeedsNoFile words.now → F.faults files.new ≡ F.faults files.old }
 {
     match request_of(alloc, words) {
         Ok(request) => request_reply(alloc, &request, files),
@@ -233,18 +234,20 @@ fn print_reply<S: Sink>(out: &mut S, reply: &Reply) -> u8
     }
 }
 
-/// Does what the words ask, with files from `files`, and prints to `out`. The answer is the status: 0 an answer is shown,
-/// 1 none is, 2 the words are refused, 3 a file is absent, 4 one could not be fetched, 5 a text has a fault, 6 a limit is passed,
-/// 8 a write failed, 9 want of memory, 10 what the words, the files or the query ask is not built.
+/// Does what the words ask, with files from `files`, and prints to `out`. The answer is the status: 0 an answer is shown, 1 none is,
+/// 2 the words are refused, 3 a file is absent, 4 one could not be fetched, 5 a text has a fault, 6 a limit is passed, 8 a write failed,
+/// 9 want of memory, 10 the command, an option, a form of a file or the query is not built yet.
 pub fn run_tool<F: Files, S: Sink>(alloc: Global, words: &Words, files: &mut F, out: &mut S) -> u8
-    // There are contents, those that the files tell where they tell, for which the status and the text are the tool's. An answer that
-    // is shown has a proof: a derivation that ends in just what is shown, whose cited lines hold its premises and whose evidence refutes.
+    // Status and text are the tool's for some contents; where the files tell what they hold, for just these. An answer that is shown has
+    // a proof: a derivation that ends in just what is shown, whose cited lines hold its premises and whose evidence refutes.
     ensures answered { run.IsTrouble result ⊎ run.Appends words.now (F.told files.old) (S.told out.old) (S.told out.new) result }
 
     // When the words are refused.
     ensures usage { result ≡ 2 → run.MayBeRefused words.now }
     ensures refused { run.MustBeRefused words.now → (result ≡ 2) ⊎ run.IsCutShort result }
-    ensures unread { run.MustBeRefused words.now → F.faults files.new ≡ F.faults files.old }
+
+    // Where the words need no file, none is fetched, as any fetch may fail.
+    ensures unfetched { run.NeedsNoFile words.now → F.faults files.new ≡ F.faults files.old }
 
     // What the counts of faults tell.
     ensures file_fault { result ≡ 4 → run.ReportsFault words.now (F.told files.old) (F.faults files.old) (F.faults files.new) (S.told out.old) (S.told out.new) }
@@ -252,8 +255,9 @@ pub fn run_tool<F: Files, S: Sink>(alloc: Global, words: &Words, files: &mut F, 
     ensures write_fault { result ≡ 8 → Rose (S.faults out.old) (S.faults out.new) }
     ensures write_cause { result ≢ 8 → S.faults out.new ≡ S.faults out.old }
 
-    // Cut short, the text is a prefix of that of another status.
-    ensures prefix { run.IsCutShort result → run.AppendsPrefix words.now (F.told files.old) (F.faults files.old) (F.faults files.new) (S.told out.old) (S.told out.new) }
+    // Cut short, the text is a prefix of that of another status; where memory was wanting, there may be none.
+    ensures write_prefix { result ≡ 8 → run.AppendsPart words.now (F.told files.old) (F.faults files.old) (F.faults files.new) (S.told out.old) (S.told out.new) }
+    ensures memory_prefix { result ≡ 9 → (S.told out.new ≡ S.told out.old) ⊎ run.AppendsPart words.now (F.told files.old) (F.faults files.old) (F.faults files.new) (S.told out.old) (S.told out.new) }
     ensures told { F.told files.new ≡ F.told files.old }
 {
     match reply_to(alloc, words, files) {

@@ -1,5 +1,5 @@
-use Rattle.sigma_app.proofs.OutcomeLaws.{tool_one}
+use Rattle.sigma_app.proofs.OutcomeLaws.{tool_one, others_usage}
 use Rattle.sigma_app.proofs.laws.one_outcome_law.Goals as goal
 
 pub returns : goal.returns
-returns c = tool_one
+returns c = record { one = tool_one; others = others_usage }

@@ -37,8 +37,14 @@ returns-in-Ok-clause-write_fault g c =
     (g.S.Sink.told c.args.out.now) (g.S.Sink.told c.print_reply.new.out) (g.S.Sink.faults c.args.out.now) (g.S.Sink.faults c.print_reply.new.out) c.print_reply.result c.in-Ok.ensures.reply
     c.print_reply.ensures
 
-pub returns-in-Ok-clause-prefix : goal.returns-in-Ok-clause-prefix
-returns-in-Ok-clause-prefix g c =
-    run.prefix c.args.words.now (g.F.Files.told c.args.files.now) (g.F.Files.faults c.args.files.now) (g.F.Files.faults c.reply_to.new.files) c.in-Ok.reply.status c.in-Ok.reply.text
+pub returns-in-Ok-clause-write_prefix : goal.returns-in-Ok-clause-write_prefix
+returns-in-Ok-clause-write_prefix g c =
+    run.write_prefix c.args.words.now (g.F.Files.told c.args.files.now) (g.F.Files.faults c.args.files.now) (g.F.Files.faults c.reply_to.new.files) c.in-Ok.reply.status c.in-Ok.reply.text
+    (g.S.Sink.told c.args.out.now) (g.S.Sink.told c.print_reply.new.out) (g.S.Sink.faults c.args.out.now) (g.S.Sink.faults c.print_reply.new.out) c.print_reply.result c.in-Ok.ensures.reply
+    c.print_reply.ensures
+
+pub returns-in-Ok-clause-memory_prefix : goal.returns-in-Ok-clause-memory_prefix
+returns-in-Ok-clause-memory_prefix g c =
+    run.memory_prefix c.args.words.now (g.F.Files.told c.args.files.now) (g.F.Files.faults c.args.files.now) (g.F.Files.faults c.reply_to.new.files) c.in-Ok.reply.status c.in-Ok.reply.text
     (g.S.Sink.told c.args.out.now) (g.S.Sink.told c.print_reply.new.out) (g.S.Sink.faults c.args.out.now) (g.S.Sink.faults c.print_reply.new.out) c.print_reply.result c.in-Ok.ensures.reply
     c.print_reply.ensures
