@@ -48,15 +48,16 @@ reads_took text tokens token old new took r =
     let more = reads_token text tokens (old.before ++ took.skipped) new.rest token.kind token.text.now idle took.is in
     subst (λ b. Reads text (tokens ++ record { kind = token.kind; bytes = token.text.now; before = old.before ++ took.skipped } ∷ []) b new.rest) (append_assoc old.before took.skipped token.text.now ∙ sym took.taken) more
 
-record Stepped (constituent : ℕ) (text before rest : List ℕ) (forms : List Located) (lists : List Open) (count : ℕ) : Type 0 where
-  closed : List Lexed
-  opened : List Lexed
-  reads : Reads text (closed ++ opened) before rest
-  nests : level 0 (closed ++ opened) ≡ Some (length lists)
-  whole : SpellsForms constituent 1 forms closed
-  open_lists : SpellsOpens lists opened
-  few : length lists ≤ 200
-  more : length forms ≤ count + 1
+-- what is kept behind one token more
+pub record Stepped (constituent : ℕ) (text before rest : List ℕ) (forms : List Located) (lists : List Open) (count : ℕ) : Type 0 where
+  pub closed : List Lexed
+  pub opened : List Lexed
+  pub reads : Reads text (closed ++ opened) before rest
+  pub nests : level 0 (closed ++ opened) ≡ Some (length lists)
+  pub whole : SpellsForms constituent 1 forms closed
+  pub open_lists : SpellsOpens lists opened
+  pub few : length lists ≤ 200
+  pub more : length forms ≤ count + 1
 
 module _ (constituent : ℕ) (text before rest : List ℕ) (forms new_forms : List Located) (lists new_lists : List Open) (closed opened : List Lexed) (at_line at_column : ℕ) (x : Lexed)
     (reads : Reads text ((closed ++ opened) ++ x ∷ []) before rest) (nests : level 0 (closed ++ opened) ≡ Some (length lists)) (whole : SpellsForms constituent 1 forms closed) (open_lists : SpellsOpens lists opened)
@@ -116,7 +117,7 @@ module _ (constituent : ℕ) (text before rest : List ℕ) (forms new_forms : Li
         more = built.few;
       }
 
-steps : (constituent : ℕ) (text before rest : List ℕ) (forms new_forms : List Located) (lists new_lists : List Open) (closed opened : List Lexed) (at_line at_column : ℕ) (kind : TokenKind) (bytes here : List ℕ) →
+pub steps : (constituent : ℕ) (text before rest : List ℕ) (forms new_forms : List Located) (lists new_lists : List Open) (closed opened : List Lexed) (at_line at_column : ℕ) (kind : TokenKind) (bytes here : List ℕ) →
     Reads text ((closed ++ opened) ++ record { kind = kind; bytes = bytes; before = here } ∷ []) before rest → level 0 (closed ++ opened) ≡ Some (length lists) → SpellsForms constituent 1 forms closed → SpellsOpens lists opened →
     length lists ≤ 200 → IsPlace at_line at_column here → IsToken kind bytes rest → Follows constituent kind bytes at_line at_column forms new_forms lists new_lists → Stepped constituent text before rest new_forms new_lists (length forms)
 steps constituent text before rest forms new_forms lists new_lists closed opened at_line at_column Left bytes here r n w o few place is f = left_step constituent text before rest forms new_forms lists new_lists closed opened at_line at_column (record { kind = Left; bytes = bytes; before = here }) r n w o few place refl is f

@@ -1,5 +1,5 @@
 -- Laws of the definitions.
-use Rattle.std.specs.Prelude.{◌≡◌, ◌≢◌, ℕ, List, [], ◌∷◌, ◌++◌, true, false, codes}
+use Rattle.std.specs.Prelude.{◌≡◌, ◌≢◌, ◌⊎◌, ℕ, List, [], ◌∷◌, ◌++◌, true, false, codes}
 use Rattle.std.specs.Bool.{Decides}
 use Rattle.sigma_base.specs.Lists.{Each}
 use Rattle.kif_tree.specs.declared.form.Form.{Form}
@@ -17,6 +17,14 @@ use Rattle.kif_reader.specs.declared.kinds.ReadError.{ReadError}
 use Rattle.kif_reader.specs.declared.kinds.ReadError.TheVariants as errors
 
 -- ---- a text is read in one way
+
+-- a text spells forms, or has a first fault
+abbrev pub HasReading : ℕ → List ℕ → Type 0
+HasReading constituent text = ((forms : List Located) × Spells constituent text forms) ⊎ ((error : ReadError) × (error ≢ errors.NoMemory) × FirstFault constituent text error)
+
+-- each text does, whatever memory there is
+abbrev pub EachHasReading : Type 0
+EachHasReading = (constituent : ℕ) (text : List ℕ) → HasReading constituent text
 
 -- a text spells one list of forms at most, with their places
 abbrev pub SpellsOnce : Type 0
