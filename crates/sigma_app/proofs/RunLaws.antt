@@ -11,7 +11,7 @@ use Rattle.sigma_app.specs.Requests.{Asked, Meaning, asks, checks, gives_clauses
 use Rattle.sigma_app.specs.Files.{Contents, live_size}
 use Rattle.sigma_app.specs.Tool.{Is, usage, not_built, live_text, many_text, live_limit, file_limit, has_option, reads_files, Shows, OnForms, OnTexts, OnParts, OnFiles, OnAsked, OnBuilt, Tool, GivesTool}
 use Rattle.sigma_app.proofs.EvidenceLaws.{shows_proof}
-use Rattle.sigma_app.specs.Run.{IsTrouble, IsCutShort, MayBeRefused, MustBeRefused, Appends, ReportsFault, AppendsPart, IsOwnReply, IsFaultReply, Obtains, PrintsPart, Printed}
+use Rattle.sigma_app.specs.Run.{IsTrouble, IsCutShort, MayBeRefused, MustBeRefused, Appends, ReportsFault, AppendsPart, IsOwnReply, Obtains, PrintsPart, Printed}
 
 -- ---- the statuses of the tool itself
 

@@ -11,7 +11,7 @@ use Rattle.sigma_app.specs.declared.files.Fetching.TheVariants.{Found, Stopped}
 use Rattle.sigma_app.specs.Requests.{Asked, Meaning, asks, checks, gives_clauses, exports, drills, Means, IsTaken, is_refused}
 use Rattle.sigma_app.specs.Files.{Contents, byte_limit, AreWhole, IsReached}
 use Rattle.sigma_app.specs.Evidence.{ShowsProof}
-use Rattle.sigma_app.specs.Tool.{Is, usage, not_built, many_text, file_limit, has_option, reads_files, absent_text, long_text, fault_text, IsAbsent, IsTooLong, OnFiles, OnAsked, Agrees, GivesTool, IsFault}
+use Rattle.sigma_app.specs.Tool.{Is, usage, not_built, many_text, file_limit, has_option, reads_files, absent_text, long_text, fault_text, IsAbsent, IsTooLong, OnFiles, Agrees, GivesTool, IsFault}
 
 -- a status that tells of the outside or of memory: a fault of the files, a failed write, want of memory
 abbrev pub IsTrouble : ℕ → Type 0

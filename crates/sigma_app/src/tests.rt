@@ -503,9 +503,9 @@ fn over_spaces(
 ) -> Result<(u8, Text), NoMemory> {
     let mut words = words_of(alloc, &["ask", query])?;
     let mut files = Vec::new(alloc);
-    let mut number = 0;
+    let mut number: u64 = 0;
     for length in lengths {
-        number += 1;
+        number = number.saturating_add(1);
         let name = name_of(alloc, number)?;
         assert!(rt; words.count() < 100);
         words.push(expect_text(rt, &name))?;
