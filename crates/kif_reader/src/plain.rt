@@ -411,7 +411,7 @@ fn append_forms(out: &mut Text, text: &[u8], tokens: &[Lexeme]) -> Result<(), No
     Ok(())
 }
 
-pub fn answer_shown(alloc: Global, text: &[u8]) -> Result<Text, NoMemory> {
+pub(crate) fn answer_shown(alloc: Global, text: &[u8]) -> Result<Text, NoMemory> {
     let mut out = Text::new(alloc);
     let cut = cut_of(alloc, text)?;
     match first_fault(&cut) {
