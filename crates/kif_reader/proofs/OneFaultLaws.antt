@@ -60,7 +60,7 @@ outcomes_same text ts us b d r s is other = ways (reads_compare text ts us b d r
 whole_outcome : (text : List ℕ) (tokens : List Lexed) (before : List ℕ) (depth : ℕ) → Reads text tokens before [] → level 0 tokens ≡ Some depth → Outcome text tokens before []
 whole_outcome text tokens before depth reads nests = record { depth = depth; reads = reads; nests = nests; final = λ more s m e stand _. nothing_more more s e stand }
 
-lex_final : (fault : Fault) (inner rest : List ℕ) → IsFault fault inner rest → (more : List Piece) (s : List ℕ) → inner ++ rest ≡ joined more ++ s → Stand more s → more ≡ []
+pub lex_final : (fault : Fault) (inner rest : List ℕ) → IsFault fault inner rest → (more : List Piece) (s : List ℕ) → inner ++ rest ≡ joined more ++ s → Stand more s → more ≡ []
 lex_final fault inner rest met [] s e stand = refl
 lex_final fault inner rest met (p ∷ ps) s e stand = absurd (no_piece fault inner rest p (joined ps ++ s) met stand.0 (e ∙ append_assoc (bytes_of p) (joined ps) s))
 
@@ -186,7 +186,7 @@ splits (z ∷ xs) (w ∷ ys) a b x y e = let h : z ≡ w = cc in let t : xs ++ x
 
 -- ---- the cause of an error
 
-spot_same : (a b : Spot) (x y : List ℕ) → IsPlace a.line a.column x → IsPlace b.line b.column y → x ≡ y → a ≡ b
+pub spot_same : (a b : Spot) (x y : List ℕ) → IsPlace a.line a.column x → IsPlace b.line b.column y → x ≡ y → a ≡ b
 spot_same a b x y is other e =
     let place : IsPlace b.line b.column x = subst (IsPlace b.line b.column) (sym e) other in
     let line : a.line ≡ b.line = is.line ∙ sym place.line in

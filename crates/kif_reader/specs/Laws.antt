@@ -82,6 +82,14 @@ EndsAtTheEnd = (text : List ℕ) (start now last : Progress) (tokens : List Toke
 abbrev pub MeetsTheFault : Type 0
 MeetsTheFault = (text : List ℕ) (start now last : Progress) (tokens : List Token) (error : LexError) → Starts text start → Gives tokens start now → Met error now last → TellsFault text tokens error
 
+-- a text has one first fault of a token at most, with its place, however its parentheses nest
+abbrev pub OneLexFault : Type 0
+OneLexFault = (text : List ℕ) (tokens others : List Token) (error other : LexError) → TellsFault text tokens error → TellsFault text others other → error ≡ other
+
+-- where the whole text is cut into tokens, none has a fault
+abbrev pub WholeHasNoLexFault : Type 0
+WholeHasNoLexFault = (text : List ℕ) (tokens others : List Token) (before : List ℕ) (error : LexError) → TellsTokens text tokens before [] → TellsFault text others error → ⊥
+
 -- ---- numerals
 
 -- the test of the definitions decides what is a numeral

@@ -22,12 +22,15 @@ pub fn printed_form_law()
     ensures { laws.PrintedSpellsAgain }
 {}
 
-/// The tokens that a reader gives are those of the text's cut, up to its end or to the first fault of a token.
+/// The tokens that a reader gives are those of the text's cut, up to its end or to the first fault of a token. A text has one such fault at
+/// most, and none where the whole of it is cut.
 pub fn tokens_law()
     ensures tokens { laws.GivesTheTokens }
     ensures places { laws.TokensStand }
     ensures whole { laws.EndsAtTheEnd }
     ensures fault { laws.MeetsTheFault }
+    ensures one { laws.OneLexFault }
+    ensures exclusive { laws.WholeHasNoLexFault }
 {}
 
 /// The test of the definitions decides which texts are numerals.

@@ -9,5 +9,6 @@ pub mod ProofLaws
 pub mod RepeatLaws
 pub mod RequestLaws
 pub mod RunLaws
+pub mod SomeOutcomeLaws
 pub mod ToolLaws
 pub mod ValueLaws

@@ -8,6 +8,14 @@ use Rattle.sigma_app.specs.Requests.{IsTaken, NamesNone}
 use Rattle.sigma_app.specs.Files.{Contents}
 use Rattle.sigma_app.specs.Tool.{Is, usage, Tool}
 
+-- a status and a text for which this holds
+abbrev pub Outcome : (ℕ → Bytes → Type 0) → Type 0
+Outcome Gives = (status : ℕ) × (text : Bytes) × Gives status text
+
+-- the tool has an outcome for every list of words, whatever the files hold
+abbrev pub ToolAnswers : Type 0
+ToolAnswers = (words : List Bytes) (contents : Contents) → Outcome (Tool words contents)
+
 abbrev pub SameOutcome : ℕ → ℕ → Bytes → Bytes → Type 0
 SameOutcome status other text page = (status ≡ other) × (text ≡ page)
 
