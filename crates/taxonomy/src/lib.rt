@@ -1,0 +1,6 @@
+//! Chains of told `subclass`, `instance` and `subrelation` forms, what the forms tell of a word, and words that are disjoint.
+#![tactic(auto)]
+
+mod told;
+
+pub use told::{ChainKind, Told};
