@@ -1,3 +1,5 @@
 pub mod Chains
 pub mod Disjoint
 pub mod Told
+pub mod Runs
+pub mod Graph

@@ -1,6 +1,8 @@
 //! Chains of told `subclass`, `instance` and `subrelation` forms, what the forms tell of a word, and words that are disjoint.
 #![tactic(auto)]
 
+mod closure;
+mod runs;
 mod told;
 
 pub use told::{ChainKind, Told};
