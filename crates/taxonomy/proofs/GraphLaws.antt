@@ -1,13 +1,15 @@
 -- Sets that grow along edges until nothing changes have exactly what paths lead to.
 use Rattle.std.proofs.Common.{◌≡◌, ℕ, suc, zero, ◌+◌, ◌<◌, ◌≤◌, ◌⊎◌, ◌||◌, List, [], ◌∷◌, ◌++◌, length, get_or, take, Bool, true, false, if◌then◌else◌, refl, sym, ap, subst, ◌∙◌, arith, inl, inr}
-use Rattle.std.specs.Prelude.{Contains, slice_set}
+use Rattle.std.specs.Prelude.{Contains, slice_set, MatchBool}
 use Rattle.std.proofs.lemmas.List.{get_or_default, get_or_read, length-set, take_more}
 use Rattle.std.proofs.lemmas.Bool.{cases_order}
-use Rattle.sigma_base.specs.Lists.{Each, each_append}
+use Rattle.std.proofs.lemmas.Bool.Decides.{nat_tests}
+use Rattle.std.proofs.Math.ListN.{get_or-eq_default}
+use Rattle.sigma_base.specs.Lists.{Each, each_append, each_left}
 use Rattle.taxonomy.specs.declared.closure.Edge.{Edge}
 use Rattle.taxonomy.specs.declared.runs.Run.{Run}
-use Rattle.taxonomy.specs.Runs.{has, IsUnion, Lacks}
-use Rattle.taxonomy.specs.Graph.{Follows, Path, Sets, set_of, IsPartial, IsPassed, ArePassed, IsClosure, absent, all_absent, Stays, Grows}
+use Rattle.taxonomy.specs.Runs.{has, in_run, IsUnion, Lacks}
+use Rattle.taxonomy.specs.Graph.{Follows, Path, AreWithin, Sets, set_of, IsPartial, IsPassed, ArePassed, IsClosure, absent, all_absent, Stays, Grows, AreSingletons, IsRound}
 
 -- ---- lists
 
@@ -197,3 +199,83 @@ less_absent edges count edge old new within g partial =
     (partial.within g.number edge.low g.new_one.given)
     g.new_one.lacks
     (g.has_both g.number ∙ or_right (has (set_of old edge.high) g.number) (has (set_of old edge.low) g.number) g.new_one.given)))
+
+-- ---- rounds
+
+in_own : (n : ℕ) → in_run n (record { start = n; end = n + 1 }) ≡ true
+in_own n = grind (arith, nat_tests)
+
+only_own : (n m : ℕ) → in_run m (record { start = n; end = n + 1 }) ≡ true → m ≡ n
+only_own n m h = grind (arith, nat_tests)
+
+has_own : (n : ℕ) → has (record { start = n; end = n + 1 } ∷ []) n ≡ true
+has_own n = or_left (in_run n (record { start = n; end = n + 1 })) false (in_own n)
+
+has_only : (n m : ℕ) → has (record { start = n; end = n + 1 } ∷ []) m ≡ true → m ≡ n
+has_only n m h = go (or_cases (in_run m (record { start = n; end = n + 1 })) false h)
+  where
+    go : ((in_run m (record { start = n; end = n + 1 }) ≡ true) ⊎ (false ≡ true)) → m ≡ n
+    go (inl is) = only_own n m is
+    go (inr no_way) = absurd (cc)
+
+single : (count : ℕ) (sets : Sets) → AreSingletons count sets → (low high : ℕ) → has (set_of sets high) low ≡ true → (high < count) × (low ≡ high)
+single count sets s low high h = go (cases_order high count)
+  where
+    here : high < count → (high < count) × (low ≡ high)
+    here lt = (lt, has_only high low (subst (λ (x : List Run). has x low ≡ true) (s.own high lt) h))
+    outside : count ≤ high → (high < count) × (low ≡ high)
+    outside le =
+        let nothing : set_of sets high ≡ [] = get_or-eq_default sets [] (omega (arith, s.long)) in
+        let no_way : false ≡ true = subst (λ (x : List Run). has x low ≡ true) nothing h in
+        absurd (cc)
+    go : ((high ≡ count) ⊎ ((high < count) ⊎ (count < high))) → (high < count) × (low ≡ high)
+    go (inl same) = outside (omega arith)
+    go (inr (inl below)) = here below
+    go (inr (inr above)) = outside (omega arith)
+
+pub start_partial : (edges : List Edge) (count : ℕ) (sets : Sets) → AreSingletons count sets → IsPartial edges count sets
+start_partial edges count sets s = record {
+  long = s.long;
+  own = λ high lt. subst (λ (x : List Run). has x high ≡ true) (sym (s.own high lt)) (has_own high);
+  within = λ low high h. let one = single count sets s low high h in omega (arith, one.0, one.1);
+  sound = λ low high h. subst (λ (n : ℕ). Path edges low n) (single count sets s low high h).1 (path_none edges low);
+}
+
+pub round_none : (edges : List Edge) (sets : Sets) → IsPartial edges (length sets) sets → IsRound edges [] sets sets false
+round_none edges sets partial = record { partial = partial; outcome = (refl, tt) }
+
+pub round_more : (edges : List Edge) (i : ℕ) (d : Edge) (old mid new : Sets) (changed grew : Bool) → i < length edges → AreWithin (length old) edges → IsRound edges (take i edges) old mid changed
+    → MatchBool grew (Grows (get_or edges i d) mid new) (Stays (get_or edges i d) mid new) → IsRound edges (take (i + 1) edges) old new (changed || grew)
+round_more edges i d old mid new changed grew lt inside round step = go changed grew round.outcome step
+  where
+    told : Contains edges (get_or edges i d)
+    told = contains_at edges i d lt
+    within : (get_or edges i d).high < length mid
+    within = omega (arith, (each_in (λ (edge : Edge). (edge.low < length old) × (edge.high < length old)) edges (get_or edges i d) told inside).1, round.partial.long)
+    go : (changed grew : Bool) → MatchBool changed (all_absent (length old) mid < all_absent (length old) old) ((mid ≡ old) × ArePassed (take i edges) mid)
+        → MatchBool grew (Grows (get_or edges i d) mid new) (Stays (get_or edges i d) mid new) → IsRound edges (take (i + 1) edges) old new (changed || grew)
+    go true true less grows = record {
+      partial = partial_grows edges (length old) (get_or edges i d) mid new told within grows round.partial;
+      outcome = omega (arith, less, less_absent edges (length old) (get_or edges i d) mid new within grows round.partial);
+    }
+    go false true same grows = record {
+      partial = partial_grows edges (length old) (get_or edges i d) mid new told within grows round.partial;
+      outcome = subst (λ (x : Sets). all_absent (length old) new < all_absent (length old) x) same.0 (less_absent edges (length old) (get_or edges i d) mid new within grows round.partial);
+    }
+    go true false less stays = record {
+      partial = subst (IsPartial edges (length old)) (sym stays.same) round.partial;
+      outcome = subst (λ (x : Sets). all_absent (length old) x < all_absent (length old) old) (sym stays.same) less;
+    }
+    go false false same stays = record {
+      partial = subst (IsPartial edges (length old)) (sym stays.same) round.partial;
+      outcome = (
+        stays.same ∙ same.0,
+        subst (ArePassed (take (i + 1) edges)) (sym stays.same) (each_take_more (IsPassed mid) edges i d lt same.1 stays.passed),
+      );
+    }
+
+pub round_ends : (edges : List Edge) (count : ℕ) (old new : Sets) (changed : Bool) → changed ≡ false → length old ≡ count → IsRound edges edges old new changed → IsClosure edges count new
+round_ends edges count old new changed none long round =
+    let outcome : MatchBool false (all_absent (length old) new < all_absent (length old) old) ((new ≡ old) × ArePassed edges new) =
+        subst (λ (b : Bool). MatchBool b (all_absent (length old) new < all_absent (length old) old) ((new ≡ old) × ArePassed edges new)) none round.outcome in
+    closed edges count new (subst (λ (n : ℕ). IsPartial edges n new) long round.partial) outcome.1

@@ -1,5 +1,5 @@
 -- Numbers that edges lead to, by paths of none or more edges.
-use Rattle.std.specs.Prelude.{◌≡◌, ℕ, ◌+◌, ◌<◌, List, [], ◌∷◌, length, get_or, suc, zero, true, Contains, if◌then◌else◌, slice_set}
+use Rattle.std.specs.Prelude.{◌≡◌, ℕ, ◌+◌, ◌<◌, List, [], ◌∷◌, length, get_or, suc, zero, true, Contains, Bool, MatchBool, if◌then◌else◌, slice_set}
 use Rattle.sigma_base.specs.Lists.{Each}
 use Rattle.taxonomy.specs.declared.closure.Edge.{Edge}
 use Rattle.taxonomy.specs.declared.runs.Run.{Run}
@@ -71,3 +71,8 @@ pub record Grows (edge : Edge) (old new : Sets) : Type 0 where
 pub record AreSingletons (count : ℕ) (sets : Sets) : Type 0 where
   pub long : length sets ≡ count
   pub own : (number : ℕ) → number < count → set_of sets number ≡ record { start = number; end = number + 1 } ∷ []
+
+-- some of the edges were passed, and whether a set grew: where none did, nothing changed
+pub record IsRound (edges passed : List Edge) (old new : Sets) (changed : Bool) : Type 0 where
+  pub partial : IsPartial edges (length old) new
+  pub outcome : MatchBool changed (all_absent (length old) new < all_absent (length old) old) ((new ≡ old) × ArePassed passed new)

@@ -44,3 +44,30 @@ fn pass(alloc: Global, sets: &mut Vec<Runs>, edge: Edge) -> Result<bool, NoMemor
     sets[edge.high] = both;
     Ok(true)
 }
+
+/// Passes each edge once. Whether a set grew.
+fn round(alloc: Global, sets: &mut Vec<Runs>, edges: &[Edge]) -> Result<bool, NoMemory>
+    requires within { spec.AreWithin (length sets.old.items) edges.now }
+    requires partial { spec.IsPartial edges.now (length sets.old.items) sets.old.items }
+    ensures { IfOk result (λ changed. spec.IsRound edges.now edges.now sets.old.items sets.new.items changed) }
+{
+    let mut changed = false;
+    for edge in edges {
+        let grew = pass(alloc, sets, *edge)?;
+        changed |= grew;
+    }
+    Ok(changed)
+}
+
+/// For each number below the count the set of the numbers from which a path of edges leads to it, its own among them.
+pub fn closure(alloc: Global, count: usize, edges: &[Edge]) -> Result<Vec<Runs>, NoMemory>
+    requires { spec.AreWithin count edges.now }
+    ensures { IfOk result (λ sets. spec.IsClosure edges.now count sets.items) }
+{
+    let mut sets = singletons(alloc, count)?;
+    loop {
+        if !round(alloc, &mut sets, edges)? {
+            return Ok(sets);
+        }
+    }
+}
