@@ -1,1 +1,2 @@
 pub mod GraphLaws
+pub mod NameLaws

@@ -3,3 +3,4 @@ pub mod Disjoint
 pub mod Told
 pub mod Runs
 pub mod Graph
+pub mod Names
