@@ -1,2 +1,3 @@
 pub mod GraphLaws
 pub mod NameLaws
+pub mod FormLaws

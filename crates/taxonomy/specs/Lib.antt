@@ -4,3 +4,4 @@ pub mod Told
 pub mod Runs
 pub mod Graph
 pub mod Names
+pub mod Forms

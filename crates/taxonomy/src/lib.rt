@@ -2,6 +2,7 @@
 #![tactic(auto)]
 
 mod closure;
+mod forms;
 mod names;
 mod runs;
 mod told;
