@@ -1,3 +1,4 @@
 pub mod GraphLaws
 pub mod NameLaws
 pub mod FormLaws
+pub mod NumberedLaws

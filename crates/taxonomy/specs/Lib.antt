@@ -5,3 +5,4 @@ pub mod Runs
 pub mod Graph
 pub mod Names
 pub mod Forms
+pub mod Numbered

@@ -8,7 +8,7 @@ use crate::told::ChainKind;
 use kif_tree::{Form, Located, Place, Text};
 
 /// A told link, whose words stand in its form.
-#[derive(Debug)]
+#[derive(Clone, Copy, Debug)]
 pub struct FoundLink<'a> {
     pub kind: ChainKind,
     pub low: &'a Text,

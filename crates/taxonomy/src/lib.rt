@@ -4,6 +4,7 @@
 mod closure;
 mod forms;
 mod names;
+mod numbered;
 mod runs;
 mod told;
 
