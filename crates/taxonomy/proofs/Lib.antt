@@ -2,3 +2,4 @@ pub mod GraphLaws
 pub mod NameLaws
 pub mod FormLaws
 pub mod NumberedLaws
+pub mod TableLaws

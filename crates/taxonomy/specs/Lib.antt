@@ -6,3 +6,4 @@ pub mod Graph
 pub mod Names
 pub mod Forms
 pub mod Numbered
+pub mod Tables

@@ -6,6 +6,7 @@ mod forms;
 mod names;
 mod numbered;
 mod runs;
+mod tables;
 mod told;
 
 pub use told::{ChainKind, Told};
