@@ -3,3 +3,4 @@ pub mod NameLaws
 pub mod FormLaws
 pub mod NumberedLaws
 pub mod TableLaws
+pub mod ChainLaws

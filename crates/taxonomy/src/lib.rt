@@ -7,6 +7,8 @@ mod names;
 mod numbered;
 mod runs;
 mod tables;
+mod taxonomy;
 mod told;
 
+pub use taxonomy::Taxonomy;
 pub use told::{ChainKind, Told};
