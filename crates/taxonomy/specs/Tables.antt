@@ -3,6 +3,7 @@ use Rattle.std.specs.Prelude.{◌≡◌, ◌≢◌, ℕ, ◌<◌, List, [], map,
 use Rattle.kif_tree.specs.Terms.{Bytes}
 use Rattle.sigma_base.specs.Lists.{Each}
 use Rattle.taxonomy.specs.declared.closure.Edge.{Edge}
+use Rattle.taxonomy.specs.declared.numbered.NumberedGroup.{NumberedGroup}
 use Rattle.taxonomy.specs.declared.numbered.NumberedLink.{NumberedLink}
 use Rattle.taxonomy.specs.declared.runs.Run.{Run}
 use Rattle.taxonomy.specs.declared.tables.Tables.{Tables}
@@ -43,9 +44,13 @@ pub record Passes (links : List Link) (kind : ChainKind) (low high : Bytes) : Ty
   pub are : OfKind kind chain
   pub joins : Joins chain low high
 
+-- what numbered links and groups say in words
+abbrev pub shown_as : List Bytes → List NumberedLink → List NumberedGroup → ToldTaxonomy
+shown_as words links groups = record { links = map (named words) links; disjoint = map (named_group words) groups }
+
 -- what the tables show of the forms
 abbrev pub shown : Tables → ToldTaxonomy
-shown tables = record { links = map (named tables.names.words.items) tables.links.items; disjoint = map (named_group tables.names.words.items) tables.groups.items }
+shown tables = shown_as tables.names.words.items tables.links.items tables.groups.items
 
 -- the sets are those that paths of the kind's links give
 pub record AreSets (kind : ChainKind) (count : ℕ) (links : List NumberedLink) (sets : List (List Run)) : Type 0 where

@@ -1,13 +1,12 @@
 //! What a taxonomy keeps: told links and disjoint words by numbers, what is told of each word, and the words below each word.
 ghost use Rattle.std.specs.Prelude.{◌≡◌, ◌<◌, ◌≤◌, ◌++◌, ◌∷◌, [], length, get_or, slice_set, IfOk, OnOk, MatchBool, MatchOption};
-ghost use Rattle.std.specs.List.{filter_map};
 ghost use Rattle.taxonomy.specs.Chains as chains;
 ghost use Rattle.taxonomy.specs.Disjoint as disjoint;
-ghost use Rattle.taxonomy.specs.Graph.{IsClosure};
+ghost use Rattle.taxonomy.specs.Names.{AreNumbered};
 ghost use Rattle.taxonomy.specs.Numbered as numbered;
 ghost use Rattle.taxonomy.specs.Tables as spec;
 
-use crate::closure::Edge;
+use crate::closure::{Edge, closure};
 use crate::names::Names;
 use crate::numbered::{NumberedGroup, NumberedLink};
 use crate::runs::{Runs, has};
@@ -51,7 +50,11 @@ pub fn is_same_kind(kind: ChainKind, other: ChainKind) -> bool
 }
 
 /// The links of the kind, as edges.
-pub fn edges_of(alloc: Global, links: &[NumberedLink], kind: ChainKind) -> Result<Vec<Edge>, NoMemory>
+pub fn edges_of(
+    alloc: Global,
+    links: &[NumberedLink],
+    kind: ChainKind,
+) -> Result<Vec<Edge>, NoMemory>
     ensures { IfOk result (λ edges. spec.AreEdges kind links.now edges.items) }
 {
     let mut edges = Vec::new(alloc);
@@ -79,7 +82,12 @@ fn empty_rows(alloc: Global, count: usize) -> Result<Vec<Listed<Told>>, NoMemory
 }
 
 /// Adds what the link tells of its first word.
-fn add_told(alloc: Global, words: &[Text], rows: &mut Vec<Listed<Told>>, link: NumberedLink) -> Result<(), NoMemory>
+fn add_told(
+    alloc: Global,
+    words: &[Text],
+    rows: &mut Vec<Listed<Told>>,
+    link: NumberedLink,
+) -> Result<(), NoMemory>
     requires low { link.low < length rows.old.items }
     requires high { link.high < length words.now }
     ensures { OnOk result (rows.new.items ≡ slice_set rows.old.items link.low (get_or rows.old.items link.low [] ++ chains.as_told (numbered.named words.now link) ∷ [])) }
@@ -94,7 +102,11 @@ fn add_told(alloc: Global, words: &[Text], rows: &mut Vec<Listed<Told>>, link: N
 }
 
 /// For each word what the links tell of it, in order.
-pub fn rows_of(alloc: Global, words: &[Text], links: &[NumberedLink]) -> Result<Vec<Listed<Told>>, NoMemory>
+pub fn rows_of(
+    alloc: Global,
+    words: &[Text],
+    links: &[NumberedLink],
+) -> Result<Vec<Listed<Told>>, NoMemory>
     requires within { numbered.LinksWithin (length words.now) links.now }
     requires distinct { spec.AreDistinct words.now }
     ensures { IfOk result (λ rows. spec.AreRows words.now links.now rows.items) }
@@ -104,6 +116,51 @@ pub fn rows_of(alloc: Global, words: &[Text], links: &[NumberedLink]) -> Result<
         add_told(alloc, words, &mut rows, *link)?;
     }
     Ok(rows)
+}
+
+/// For each word the words from which links of the kind lead to it, and itself.
+fn sets_of(
+    alloc: Global,
+    count: usize,
+    links: &[NumberedLink],
+    kind: ChainKind,
+) -> Result<Vec<Runs>, NoMemory>
+    requires { numbered.LinksWithin count links.now }
+    ensures { IfOk result (λ sets. spec.AreSets kind count links.now sets.items) }
+{
+    let edges = edges_of(alloc, links, kind)?;
+    closure(alloc, count, edges.as_slice())
+}
+
+/// The tables of the links and groups.
+pub fn tables_of(
+    alloc: Global,
+    names: Names,
+    links: Vec<NumberedLink>,
+    groups: Vec<NumberedGroup>,
+) -> Result<Tables, NoMemory>
+    requires names { AreNumbered names.numbers names.words.items }
+    requires links { numbered.LinksWithin (length names.words.items) links.items }
+    requires groups { numbered.GroupsWithin (length names.words.items) groups.items }
+    ensures tables { IfOk result (λ tables. spec.AreTables tables) }
+    ensures shown { IfOk result (λ tables. spec.shown tables ≡ spec.shown_as names.words.items links.items groups.items) }
+{
+    let rows = rows_of(alloc, names.words.as_slice(), links.as_slice())?;
+    let classes = sets_of(alloc, names.words.len(), links.as_slice(), ChainKind::Class)?;
+    let relations = sets_of(
+        alloc,
+        names.words.len(),
+        links.as_slice(),
+        ChainKind::Relation,
+    )?;
+    Ok(Tables {
+        names,
+        links,
+        groups,
+        rows,
+        classes,
+        relations,
+    })
 }
 
 /// Whether the number is another one than that which is left out.

@@ -4,10 +4,9 @@ ghost use Rattle.taxonomy.specs.Chains.{Chain, parents};
 ghost use Rattle.taxonomy.specs.Disjoint.{AreDisjointBy, AreNotDisjoint};
 ghost use Rattle.taxonomy.specs.Told.{told_taxonomy};
 
-use crate::closure::closure;
 use crate::names::Names;
 use crate::numbered::{numbered_groups, numbered_links};
-use crate::tables::{Tables, edges_of, rows_of};
+use crate::tables::{Tables, tables_of};
 use crate::told::{ChainKind, Told};
 use kif_tree::{Located, Place};
 use sigma_base::NoMemory;
@@ -40,21 +39,8 @@ impl Taxonomy {
         let mut names = Names::new(alloc);
         let links = numbered_links(alloc, &mut names, forms)?;
         let groups = numbered_groups(alloc, &mut names, forms)?;
-        let rows = rows_of(alloc, names.words.as_slice(), links.as_slice())?;
-        let subclasses = edges_of(alloc, links.as_slice(), ChainKind::Class)?;
-        let subrelations = edges_of(alloc, links.as_slice(), ChainKind::Relation)?;
-        let classes = closure(alloc, names.words.len(), subclasses.as_slice())?;
-        let relations = closure(alloc, names.words.len(), subrelations.as_slice())?;
-        Ok(Taxonomy {
-            tables: Tables {
-                names,
-                links,
-                groups,
-                rows,
-                classes,
-                relations,
-            },
-        })
+        let tables = tables_of(alloc, names, links, groups)?;
+        Ok(Taxonomy { tables })
     }
 
     /// Whether a chain of that kind leads from the first word to the second. It takes no memory.
