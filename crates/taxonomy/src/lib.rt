@@ -8,6 +8,8 @@ mod numbered;
 mod runs;
 mod tables;
 mod taxonomy;
+#[cfg(test)]
+mod tests;
 mod told;
 
 pub use taxonomy::Taxonomy;
