@@ -1,0 +1,16 @@
+//! Chains of told `subclass`, `instance` and `subrelation` forms, what the forms tell of a word, and words that are disjoint.
+#![tactic(auto)]
+
+mod closure;
+mod forms;
+mod names;
+mod numbered;
+mod runs;
+mod tables;
+mod taxonomy;
+#[cfg(test)]
+mod tests;
+mod told;
+
+pub use taxonomy::Taxonomy;
+pub use told::{ChainKind, Told};
