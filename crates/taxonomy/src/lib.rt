@@ -5,6 +5,7 @@ mod closure;
 mod forms;
 mod names;
 mod numbered;
+mod order;
 mod runs;
 mod tables;
 mod taxonomy;

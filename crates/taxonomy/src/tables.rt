@@ -128,8 +128,11 @@ fn sets_of(
     requires { numbered.LinksWithin count links.now }
     ensures { IfOk result (λ sets. spec.AreSets kind count links.now sets.items) }
 {
-    let edges = edges_of(alloc, links, kind)?;
-    closure(alloc, count, edges.as_slice())
+    let mut edges = edges_of(alloc, links, kind)?;
+    // what lies below a number has mostly come to it before it is passed on
+    edges.sort()?;
+    let sets = closure(alloc, count, edges.as_slice())?;
+    Ok(sets)
 }
 
 /// The tables of the links and groups.
