@@ -1,0 +1,6 @@
+pub mod Nearest
+pub mod Arities
+pub mod Types
+pub mod Relations
+pub mod Inherited
+pub mod Tables

@@ -1,0 +1,9 @@
+//! What told forms say of relations and functions: how many arguments they take, of which types, and what the values of functions are.
+#![tactic(auto)]
+
+mod inherited;
+mod signatures;
+mod told;
+
+pub use signatures::Signatures;
+pub use told::{Arity, TypeTold};
