@@ -2,7 +2,9 @@
 #![tactic(auto)]
 
 mod inherited;
+mod nearest;
 mod signatures;
+mod standin;
 mod told;
 
 pub use signatures::Signatures;
