@@ -26,22 +26,17 @@ contains_at xs i d lt = (i, lt, get_or_default xs i (get_or xs i d) d lt)
 
 -- ---- a set that is replaced
 
-pub set_cases : (sets : Sets) (at h : ℕ) (runs : List Run) → at < length sets → ((h ≡ at) × (set_of (slice_set sets at runs) h ≡ runs)) ⊎ (set_of (slice_set sets at runs) h ≡ set_of sets h)
-set_cases [] at h runs lt = absurd (omega arith)
-set_cases (s ∷ sets) zero zero runs lt = inl (refl, refl)
-set_cases (s ∷ sets) zero (suc h) runs lt = inr refl
-set_cases (s ∷ sets) (suc at) zero runs lt = inr refl
-set_cases (s ∷ sets) (suc at) (suc h) runs lt = later (set_cases sets at h runs (omega arith))
+pub set_cases : {X : Type 0} (d : X) (xs : List X) (at h : ℕ) (x : X) → at < length xs → ((h ≡ at) × (get_or (slice_set xs at x) h d ≡ x)) ⊎ ((h ≡ at → ⊥) × (get_or (slice_set xs at x) h d ≡ get_or xs h d))
+set_cases d [] at h x lt = absurd (omega arith)
+set_cases d (y ∷ xs) zero zero x lt = inl (refl, refl)
+set_cases d (y ∷ xs) zero (suc h) x lt = inr (λ e. absurd (omega (arith, e)), refl)
+set_cases d (y ∷ xs) (suc at) zero x lt = inr (λ e. absurd (omega (arith, e)), refl)
+set_cases {X = X} d (y ∷ xs) (suc at) (suc h) x lt = later (set_cases d xs at h x (omega arith))
   where
-    later : (((h ≡ at) × (set_of (slice_set sets at runs) h ≡ runs)) ⊎ (set_of (slice_set sets at runs) h ≡ set_of sets h))
-        → (((suc h ≡ suc at) × (set_of (slice_set sets at runs) h ≡ runs)) ⊎ (set_of (slice_set sets at runs) h ≡ set_of sets h))
+    later : (((h ≡ at) × (get_or (slice_set xs at x) h d ≡ x)) ⊎ ((h ≡ at → ⊥) × (get_or (slice_set xs at x) h d ≡ get_or xs h d)))
+        → (((suc h ≡ suc at) × (get_or (slice_set xs at x) h d ≡ x)) ⊎ ((suc h ≡ suc at → ⊥) × (get_or (slice_set xs at x) h d ≡ get_or xs h d)))
     later (inl (same, is)) = inl (ap (λ (n : ℕ). suc n) same, is)
-    later (inr other) = inr other
-
-pub set_here : (sets : Sets) (at : ℕ) (runs : List Run) → at < length sets → set_of (slice_set sets at runs) at ≡ runs
-set_here [] at runs lt = absurd (omega arith)
-set_here (s ∷ sets) zero runs lt = refl
-set_here (s ∷ sets) (suc at) runs lt = set_here sets at runs (omega arith)
+    later (inr (apart, is)) = inr (λ e. apart (omega (arith, e)), is)
 
 -- ---- how much is absent
 
@@ -151,13 +146,13 @@ or_right false y h = h
 -- a number of the new sets was in the old ones, or came along the edge
 came : (edge : Edge) (old new : Sets) → edge.high < length old → Grows edge old new → (low high : ℕ) → has (set_of new high) low ≡ true
     → (has (set_of old high) low ≡ true) ⊎ ((high ≡ edge.high) × (has (set_of old edge.low) low ≡ true))
-came edge old new within g low high h = go (set_cases old edge.high high g.grown within)
+came edge old new within g low high h = go (set_cases [] old edge.high high g.grown within)
   where
     there : has (set_of (slice_set old edge.high g.grown) high) low ≡ true
     there = subst (λ (x : Sets). has (set_of x high) low ≡ true) g.is h
-    go : (((high ≡ edge.high) × (set_of (slice_set old edge.high g.grown) high ≡ g.grown)) ⊎ (set_of (slice_set old edge.high g.grown) high ≡ set_of old high))
+    go : (((high ≡ edge.high) × (set_of (slice_set old edge.high g.grown) high ≡ g.grown)) ⊎ ((high ≡ edge.high → ⊥) × (set_of (slice_set old edge.high g.grown) high ≡ set_of old high)))
         → ((has (set_of old high) low ≡ true) ⊎ ((high ≡ edge.high) × (has (set_of old edge.low) low ≡ true)))
-    go (inr other) = inl (subst (λ (x : List Run). has x low ≡ true) other there)
+    go (inr (apart, other)) = inl (subst (λ (x : List Run). has x low ≡ true) other there)
     go (inl (same, is)) = either (or_cases (has (set_of old edge.high) low) (has (set_of old edge.low) low) (sym (g.has_both low) ∙ subst (λ (x : List Run). has x low ≡ true) is there))
       where
         either : ((has (set_of old edge.high) low ≡ true) ⊎ (has (set_of old edge.low) low ≡ true)) → ((has (set_of old high) low ≡ true) ⊎ ((high ≡ edge.high) × (has (set_of old edge.low) low ≡ true)))
@@ -166,11 +161,11 @@ came edge old new within g low high h = go (set_cases old edge.high high g.grown
 
 -- nothing is lost
 kept : (edge : Edge) (old new : Sets) → edge.high < length old → Grows edge old new → (low high : ℕ) → has (set_of old high) low ≡ true → has (set_of new high) low ≡ true
-kept edge old new within g low high h = subst (λ (x : Sets). has (set_of x high) low ≡ true) (sym g.is) (go (set_cases old edge.high high g.grown within))
+kept edge old new within g low high h = subst (λ (x : Sets). has (set_of x high) low ≡ true) (sym g.is) (go (set_cases [] old edge.high high g.grown within))
   where
-    go : (((high ≡ edge.high) × (set_of (slice_set old edge.high g.grown) high ≡ g.grown)) ⊎ (set_of (slice_set old edge.high g.grown) high ≡ set_of old high))
+    go : (((high ≡ edge.high) × (set_of (slice_set old edge.high g.grown) high ≡ g.grown)) ⊎ ((high ≡ edge.high → ⊥) × (set_of (slice_set old edge.high g.grown) high ≡ set_of old high)))
         → has (set_of (slice_set old edge.high g.grown) high) low ≡ true
-    go (inr other) = subst (λ (x : List Run). has x low ≡ true) (sym other) h
+    go (inr (apart, other)) = subst (λ (x : List Run). has x low ≡ true) (sym other) h
     go (inl (same, is)) =
         subst (λ (x : List Run). has x low ≡ true) (sym is)
         (g.has_both low ∙ or_left (has (set_of old edge.high) low) (has (set_of old edge.low) low) (subst (λ (k : ℕ). has (set_of old k) low ≡ true) same h))

@@ -1,2 +1,6 @@
 pub mod GraphLaws
 pub mod NameLaws
+pub mod FormLaws
+pub mod NumberedLaws
+pub mod TableLaws
+pub mod ChainLaws

@@ -65,7 +65,7 @@ pub get_or_last : (words : List Bytes) (word : Bytes) → get_or (words ++ word 
 get_or_last [] word = refl
 get_or_last (w ∷ words) word = get_or_last words word
 
-contains_word : (words : List Bytes) (n : ℕ) (word : Bytes) → n < length words → get_or words n [] ≡ word → Contains words word
+pub contains_word : (words : List Bytes) (n : ℕ) (word : Bytes) → n < length words → get_or words n [] ≡ word → Contains words word
 contains_word words n word lt is = (n, lt, get_or_default words n word [] lt ∙ is)
 
 pub numbered_more : (old new : BTreeMap Key ℕ) (words : List Bytes) (key : Key) (word : Bytes) → AreNumbered old words → (Contains words word → ⊥) → key.items ≡ word

@@ -4,3 +4,6 @@ pub mod Told
 pub mod Runs
 pub mod Graph
 pub mod Names
+pub mod Forms
+pub mod Numbered
+pub mod Tables

@@ -19,9 +19,13 @@ pub record AreNumbered (numbers : BTreeMap (Vec ℕ Global) ℕ) (words : List B
   pub found : (word : Bytes) (number : ℕ) → number_of numbers word ≡ Some number → (number < length words) × (get_or words number [] ≡ word)
   pub known : (number : ℕ) → number < length words → number_of numbers (get_or words number []) ≡ Some number
 
--- the word has the number in the new list, which begins with the old one
-pub record Adds (old new : List Bytes) (word : Bytes) (number : ℕ) : Type 0 where
+-- the new list begins with the old one
+pub record Extends (old new : List Bytes) : Type 0 where
   pub more : List Bytes
   pub is : new ≡ old ++ more
+
+-- the word has the number in the new list, which begins with the old one
+pub record Adds (old new : List Bytes) (word : Bytes) (number : ℕ) : Type 0 where
+  pub extends : Extends old new
   pub within : number < length new
   pub stands : get_or new number [] ≡ word

@@ -2,8 +2,13 @@
 #![tactic(auto)]
 
 mod closure;
+mod forms;
 mod names;
+mod numbered;
 mod runs;
+mod tables;
+mod taxonomy;
 mod told;
 
+pub use taxonomy::Taxonomy;
 pub use told::{ChainKind, Told};

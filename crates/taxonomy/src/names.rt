@@ -10,8 +10,8 @@ use std::collections::BTreeMap;
 /// Different words, numbered from 0 in the order in which they came.
 #[derive(Debug, Drop)]
 pub struct Names {
-    numbers: BTreeMap<Vec<u8>, usize>,
-    words: Vec<Text>,
+    pub numbers: BTreeMap<Vec<u8>, usize>,
+    pub words: Vec<Text>,
 }
 
 impl Names {

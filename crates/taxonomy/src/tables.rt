@@ -1,0 +1,250 @@
+//! What a taxonomy keeps: told links and disjoint words by numbers, what is told of each word, and the words below each word.
+ghost use Rattle.std.specs.Prelude.{◌≡◌, ◌<◌, ◌≤◌, ◌++◌, ◌∷◌, [], length, get_or, slice_set, IfOk, OnOk, MatchBool, MatchOption};
+ghost use Rattle.std.specs.List.{filter_map};
+ghost use Rattle.taxonomy.specs.Chains as chains;
+ghost use Rattle.taxonomy.specs.Disjoint as disjoint;
+ghost use Rattle.taxonomy.specs.Graph.{IsClosure};
+ghost use Rattle.taxonomy.specs.Numbered as numbered;
+ghost use Rattle.taxonomy.specs.Tables as spec;
+
+use crate::closure::Edge;
+use crate::names::Names;
+use crate::numbered::{NumberedGroup, NumberedLink};
+use crate::runs::{Runs, has};
+use crate::told::{ChainKind, Told};
+use kif_tree::{Place, Text};
+use sigma_base::{Listed, NoMemory};
+use std::alloc::Global;
+
+/// Told forms and what is worked out from them.
+#[derive(Debug, Drop)]
+pub struct Tables {
+    pub names: Names,
+    pub links: Vec<NumberedLink>,
+    pub groups: Vec<NumberedGroup>,
+    /// For each word what the links tell of it.
+    pub rows: Vec<Listed<Told>>,
+    /// For each word itself and the words from which chains of `subclass` lead to it.
+    pub classes: Vec<Runs>,
+    /// The same with `subrelation`.
+    pub relations: Vec<Runs>,
+}
+
+/// Whether the kinds are the same.
+pub fn is_same_kind(kind: ChainKind, other: ChainKind) -> bool
+    ensures { MatchBool result (kind ≡ other) (kind ≡ other → ⊥) }
+{
+    match kind {
+        ChainKind::Class => match other {
+            ChainKind::Class => true,
+            _ => false,
+        },
+        ChainKind::Instance => match other {
+            ChainKind::Instance => true,
+            _ => false,
+        },
+        ChainKind::Relation => match other {
+            ChainKind::Relation => true,
+            _ => false,
+        },
+    }
+}
+
+/// The links of the kind, as edges.
+pub fn edges_of(alloc: Global, links: &[NumberedLink], kind: ChainKind) -> Result<Vec<Edge>, NoMemory>
+    ensures { IfOk result (λ edges. spec.AreEdges kind links.now edges.items) }
+{
+    let mut edges = Vec::new(alloc);
+    for link in links {
+        if !is_same_kind(link.kind, kind) {
+            continue;
+        }
+        edges.push(Edge {
+            low: link.low,
+            high: link.high,
+        })?;
+    }
+    Ok(edges)
+}
+
+/// As many empty rows as there are words.
+fn empty_rows(alloc: Global, count: usize) -> Result<Vec<Listed<Told>>, NoMemory>
+    ensures { IfOk result (λ rows. spec.AreEmptyRows count rows.items) }
+{
+    let mut rows = Vec::new(alloc);
+    for _ in 0..count {
+        rows.push(Listed::new(alloc))?;
+    }
+    Ok(rows)
+}
+
+/// Adds what the link tells of its first word.
+fn add_told(alloc: Global, words: &[Text], rows: &mut Vec<Listed<Told>>, link: NumberedLink) -> Result<(), NoMemory>
+    requires low { link.low < length rows.old.items }
+    requires high { link.high < length words.now }
+    ensures { OnOk result (rows.new.items ≡ slice_set rows.old.items link.low (get_or rows.old.items link.low [] ++ chains.as_told (numbered.named words.now link) ∷ [])) }
+{
+    let parent = words[link.high].copy(alloc)?;
+    let row = &mut rows[link.low];
+    row.push(Told {
+        kind: link.kind,
+        parent,
+        place: link.place,
+    })
+}
+
+/// For each word what the links tell of it, in order.
+pub fn rows_of(alloc: Global, words: &[Text], links: &[NumberedLink]) -> Result<Vec<Listed<Told>>, NoMemory>
+    requires within { numbered.LinksWithin (length words.now) links.now }
+    requires distinct { spec.AreDistinct words.now }
+    ensures { IfOk result (λ rows. spec.AreRows words.now links.now rows.items) }
+{
+    let mut rows = empty_rows(alloc, words.len())?;
+    for link in links {
+        add_told(alloc, words, &mut rows, *link)?;
+    }
+    Ok(rows)
+}
+
+/// Whether the number is another one than that which is left out.
+fn is_other(but: Option<usize>, number: usize) -> bool
+    ensures { MatchBool result (spec.IsOther but number) (spec.IsOther but number → ⊥) }
+{
+    match but {
+        Some(but) => number != but,
+        None => true,
+    }
+}
+
+impl Tables {
+    /// What the links tell of the word, in order.
+    pub fn row(&self, word: &[u8]) -> &[Told]
+        requires { spec.AreTables self.now }
+        ensures { result.now ≡ chains.parents (spec.shown self.now).links word.now }
+    {
+        match self.names.number(word) {
+            Some(number) => self.rows[number].items(),
+            None => &[],
+        }
+    }
+
+    /// For each word the words from which links of a kind that stand later in a chain lead to it.
+    fn sets(&self, kind: ChainKind) -> &[Runs]
+        requires { spec.AreTables self.now }
+        ensures { spec.AreSets (chains.later_kind kind) (length self.now.names.words.items) self.now.links.items result.now }
+    {
+        match kind {
+            ChainKind::Class => self.classes.as_slice(),
+            ChainKind::Instance => self.classes.as_slice(),
+            ChainKind::Relation => self.relations.as_slice(),
+        }
+    }
+
+    /// Whether none or more links of a kind that stand later in a chain lead from the word to that of the number.
+    fn reaches(&self, kind: ChainKind, word: &[u8], high: usize) -> bool
+        requires tables { spec.AreTables self.now }
+        requires high { high < length self.now.names.words.items }
+        ensures { MatchBool result (spec.Passes (spec.shown self.now).links (chains.later_kind kind) word.now (numbered.word self.now.names.words.items high)) (spec.Passes (spec.shown self.now).links (chains.later_kind kind) word.now (numbered.word self.now.names.words.items high) → ⊥) }
+    {
+        let Some(low) = self.names.number(word) else {
+            return false;
+        };
+        let sets = self.sets(kind);
+        has(sets[high].items(), low)
+    }
+
+    /// Whether a chain leads from the word to that of the number.
+    fn leads(&self, kind: ChainKind, low: &[u8], high: usize) -> bool
+        requires tables { spec.AreTables self.now }
+        requires high { high < length self.now.names.words.items }
+        ensures { MatchBool result (chains.Chain (spec.shown self.now).links kind low.now (numbered.word self.now.names.words.items high)) (chains.Chain (spec.shown self.now).links kind low.now (numbered.word self.now.names.words.items high) → ⊥) }
+    {
+        for told in self.row(low) {
+            if !is_same_kind(told.kind, kind) {
+                continue;
+            }
+            if self.reaches(kind, told.parent.bytes(), high) {
+                return true;
+            }
+        }
+        false
+    }
+
+    /// Whether a chain leads from one word to the other.
+    pub fn is_above(&self, kind: ChainKind, low: &[u8], high: &[u8]) -> bool
+        requires { spec.AreTables self.now }
+        ensures { MatchBool result (chains.Chain (spec.shown self.now).links kind low.now high.now) (chains.Chain (spec.shown self.now).links kind low.now high.now → ⊥) }
+    {
+        match self.names.number(high) {
+            Some(number) => self.leads(kind, low, number),
+            None => false,
+        }
+    }
+
+    /// Whether the word of the number is at or above the word.
+    fn is_at_or_above(&self, word: &[u8], number: usize) -> bool
+        requires tables { spec.AreTables self.now }
+        requires number { number < length self.now.names.words.items }
+        ensures { MatchBool result (chains.IsAtOrAbove (spec.shown self.now).links word.now (numbered.word self.now.names.words.items number)) (chains.IsAtOrAbove (spec.shown self.now).links word.now (numbered.word self.now.names.words.items number) → ⊥) }
+    {
+        if word == self.names.words[number].bytes() {
+            return true;
+        }
+        if self.leads(ChainKind::Class, word, number) {
+            return true;
+        }
+        self.leads(ChainKind::Instance, word, number)
+    }
+
+    /// A word of the group at or above the word, by its number, other than the one that is left out.
+    fn above(&self, group: &[usize], word: &[u8], but: Option<usize>) -> Option<usize>
+        requires tables { spec.AreTables self.now }
+        requires group { numbered.AreBelow (length self.now.names.words.items) group.now }
+        ensures { MatchOption result (spec.NoneIsFound self.now group.now word.now but) (λ number. spec.IsFound self.now group.now word.now but number) }
+    {
+        for number in group {
+            if !is_other(but, *number) {
+                continue;
+            }
+            if self.is_at_or_above(word, *number) {
+                return Some(*number);
+            }
+        }
+        None
+    }
+
+    /// Whether two different words of the group are at or above the two words.
+    fn separates(&self, group: &NumberedGroup, first: &[u8], second: &[u8]) -> bool
+        requires tables { spec.AreTables self.now }
+        requires group { numbered.AreBelow (length self.now.names.words.items) group.now.words }
+        ensures { MatchBool result (disjoint.Separates (spec.shown self.now).links (numbered.named_group self.now.names.words.items group.now) first.now second.now) (disjoint.Separates (spec.shown self.now).links (numbered.named_group self.now.names.words.items group.now) first.now second.now → ⊥) }
+    {
+        let words = group.words.items();
+        let Some(one) = self.above(words, first, None) else {
+            return false;
+        };
+        let Some(_) = self.above(words, second, None) else {
+            return false;
+        };
+        if let Some(_) = self.above(words, second, Some(one)) {
+            return true;
+        }
+        if let Some(_) = self.above(words, first, Some(one)) {
+            return true;
+        }
+        false
+    }
+
+    /// The place of the first group that separates the two words.
+    pub fn are_disjoint(&self, first: &[u8], second: &[u8]) -> Option<Place>
+        requires { spec.AreTables self.now }
+        ensures { MatchOption result (disjoint.AreNotDisjoint (spec.shown self.now) first.now second.now) (λ place. disjoint.AreDisjointBy (spec.shown self.now) first.now second.now place) }
+    {
+        for group in self.groups.as_slice() {
+            if self.separates(group, first, second) {
+                return Some(group.place);
+            }
+        }
+        None
+    }
+}
