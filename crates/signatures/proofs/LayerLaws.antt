@@ -21,7 +21,7 @@ use Rattle.taxonomy.specs.declared.told.ChainKind.TheVariants as kinds
 use Rattle.taxonomy.specs.declared.told.Told.{Told}
 use Rattle.taxonomy.specs.Chains.{Joins, IsChain, OfKind, Chain, IsDistance, as_told, parents}
 use Rattle.taxonomy.specs.Told.{Link}
-use Rattle.signatures.specs.Inherited.{Key, find, Has}
+use Rattle.signatures.specs.WordTables.{Key, find, Has}
 use Rattle.signatures.specs.Nearest.{IsBefore, IsNearest, NoneReached}
 use Rattle.signatures.specs.Layers.{Step, Walk, Among, AreLayers, IsFirst, is_earlier, is_relation, with_parent, with_parents, with_layer, absent, left_over}
 

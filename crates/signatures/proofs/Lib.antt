@@ -1,2 +1,4 @@
 pub mod LayerLaws
 pub mod StandinLaws
+pub mod WordTableLaws
+pub mod FormLaws

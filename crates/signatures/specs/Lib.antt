@@ -3,5 +3,7 @@ pub mod Arities
 pub mod Types
 pub mod Relations
 pub mod Layers
+pub mod Forms
+pub mod WordTables
 pub mod Inherited
 pub mod Tables

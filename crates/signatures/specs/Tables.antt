@@ -7,7 +7,8 @@ use Rattle.signatures.specs.declared.told.Arity.TheVariants.{Unstated}
 use Rattle.signatures.specs.declared.told.TypeTold.{TypeTold}
 use Rattle.signatures.specs.declared.signatures.ArgumentTypes.{ArgumentTypes}
 use Rattle.signatures.specs.declared.signatures.Signatures.{Signatures}
-use Rattle.signatures.specs.Inherited.{find, value_in}
+use Rattle.signatures.specs.WordTables.{find}
+use Rattle.signatures.specs.Inherited.{value_in}
 use Rattle.signatures.specs.Arities.{IsArity}
 use Rattle.signatures.specs.Types.{AreTypes, ranges}
 use Rattle.signatures.specs.Relations.{AreRelationNames}

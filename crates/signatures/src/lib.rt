@@ -1,11 +1,13 @@
 //! What told forms say of relations and functions: how many arguments they take, of which types, and what the values of functions are.
 #![tactic(auto)]
 
+mod forms;
 mod inherited;
 mod nearest;
 mod signatures;
 mod standin;
 mod told;
+mod word_table;
 
 pub use signatures::Signatures;
 pub use told::{Arity, TypeTold};

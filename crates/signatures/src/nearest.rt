@@ -2,7 +2,7 @@
 ghost use Rattle.std.specs.Prelude.{◌≡◌, ◌++◌, [], None, IfOk, OnOk, MatchOption};
 ghost use Rattle.std.specs.Option.{option_map};
 ghost use Rattle.sigma_base.specs.Lists.{Each};
-ghost use Rattle.signatures.specs.Inherited.{Has, find};
+ghost use Rattle.signatures.specs.WordTables.{Has, find};
 ghost use Rattle.signatures.specs.Layers as spec;
 ghost use Rattle.signatures.specs.Nearest.{IsNearest, NoneReached};
 ghost use Rattle.kif_tree.specs.Shape as shape;

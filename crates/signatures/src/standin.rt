@@ -1,5 +1,5 @@
 //! Stands in for the taxonomy until its crate has it. Not for landing.
-ghost use Rattle.std.specs.Prelude.{◌≡◌, MatchBool};
+ghost use Rattle.std.specs.Prelude.{◌≡◌, ◌↔◌, IsTrue};
 ghost use Rattle.taxonomy.specs.Chains.{Chain, parents};
 
 use std::marker::Model;
@@ -20,7 +20,7 @@ impl Model for Taxonomy {
 
 impl Taxonomy {
     pub fn is_above(&self, kind: ChainKind, low: &[u8], high: &[u8]) -> bool
-        ensures { MatchBool result (Chain self.now.links kind low.now high.now) (Chain self.now.links kind low.now high.now → ⊥) }
+        ensures { IsTrue result ↔ Chain self.now.links kind low.now high.now }
     {
         let _ = self.told.len();
         false

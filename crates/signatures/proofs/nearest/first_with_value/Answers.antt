@@ -1,6 +1,6 @@
 use Rattle.std.proofs.Common.{ap, sym, ◌∙◌}
 use Rattle.std.specs.Prelude.{is_some}
-use Rattle.signatures.specs.Inherited.{find}
+use Rattle.signatures.specs.WordTables.{find}
 use Rattle.signatures.proofs.LayerLaws.{first_without, first_later, first_earlier}
 use Rattle.signatures.proofs.nearest.first_with_value.Goals as goal
 

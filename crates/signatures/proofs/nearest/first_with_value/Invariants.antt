@@ -1,7 +1,7 @@
 use Rattle.std.proofs.Common.{take}
 use Rattle.std.specs.Prelude.{MatchOption}
 use Rattle.sigma_base.specs.Lists.{Each}
-use Rattle.signatures.specs.Inherited.{Has}
+use Rattle.signatures.specs.WordTables.{Has}
 use Rattle.signatures.specs.Layers as spec
 use Rattle.signatures.proofs.nearest.first_with_value.Given as goal
 

@@ -1,4 +1,4 @@
-use Rattle.signatures.specs.Inherited.{Has}
+use Rattle.signatures.specs.WordTables.{Has}
 use Rattle.signatures.specs.Layers as spec
 use Rattle.signatures.proofs.nearest.nearest.Given as goal
 
