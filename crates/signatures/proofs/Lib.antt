@@ -1,4 +1,5 @@
 pub mod LayerLaws
 pub mod StandinLaws
+pub mod SubjectLaws
 pub mod WordTableLaws
 pub mod FormLaws

@@ -50,7 +50,7 @@ pub record ClassArity : Type 0 where
   pub class : Bytes
   pub arity : Arity
 
-abbrev gives : Bytes → Arity → ClassArity
+abbrev pub gives : Bytes → Arity → ClassArity
 gives class arity = record { class = class; arity = arity }
 
 abbrev pub function_classes : List ClassArity

@@ -6,4 +6,5 @@ pub mod Layers
 pub mod Forms
 pub mod WordTables
 pub mod Inherited
+pub mod OwnArities
 pub mod Tables

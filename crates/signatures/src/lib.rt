@@ -1,6 +1,7 @@
 //! What told forms say of relations and functions: how many arguments they take, of which types, and what the values of functions are.
 #![tactic(auto)]
 
+mod arities;
 mod forms;
 mod inherited;
 mod nearest;
