@@ -1,5 +1,6 @@
 pub mod LayerLaws
 pub mod StandinLaws
 pub mod SubjectLaws
+pub mod ArityLaws
 pub mod WordTableLaws
 pub mod FormLaws

@@ -15,42 +15,49 @@ use Rattle.taxonomy.specs.declared.told.ChainKind.TheVariants as kinds
 use Rattle.taxonomy.specs.Chains.{Chain, IsChain, Joins}
 use Rattle.taxonomy.specs.Told.{Link, links, told_link, link_of_words, link_of_kind, kind_of, word_text, word_texts, text_before, parts_of, ToldPair, told_pair, pair_of_words, ToldNumber, told_number, number_of_parts, number_of, short_number, ToldArgument, told_argument, argument_of_parts, argument_of}
 use Rattle.signatures.specs.declared.inherited.Inherited.{Inherited}
-use Rattle.signatures.specs.Forms.{subject, second_text}
+use Rattle.signatures.specs.Forms.{subject, second_text, object, third_text}
 use Rattle.signatures.specs.Inherited.{IsRight, NeedsNone, AreNoted, Inherits}
-use Rattle.signatures.specs.Layers.{Among}
+use Rattle.signatures.specs.Layers.{Among, Walk}
 use Rattle.signatures.specs.Nearest.{IsNearest, NoneReached}
 use Rattle.signatures.specs.WordTables.{Key, find, Has, IsTableOf, IsGoneThrough}
-use Rattle.signatures.proofs.LayerLaws.{among_here, among_later, each_among}
+use Rattle.signatures.proofs.LayerLaws.{among_here, among_later, each_among, walk_of}
 use Rattle.signatures.proofs.WordTableLaws.{table_of_more}
 
 -- ---- a form more
 
-subjects_more : (forms : List Located) (i : ℕ) (located : Located) → i < length forms → located ≡ get_or forms i located → filter_map subject (take (i + 1) forms) ≡ filter_map subject (take i forms) ++ filter_map subject (located ∷ [])
-subjects_more forms i located lt is =
-    ap (filter_map subject) (take_more forms i located lt) ∙ filter_map-append subject (take i forms) (get_or forms i located ∷ [])
-    ∙ ap (λ (l : Located). filter_map subject (take i forms) ++ filter_map subject (l ∷ [])) (sym is)
-
-one_subject : (located : Located) (o : Option Bytes) → subject located ≡ o → (ws : List Bytes) → MatchOption o (filter_map subject (located ∷ []) ≡ []) (λ word. filter_map subject (located ∷ []) ≡ word ∷ [])
-one_subject located None e ws = ap (λ (o : Option Bytes). cons_option o []) e
-one_subject located (Some word) e ws = ap (λ (o : Option Bytes). cons_option o []) e
+one : (f : Located → Option Bytes) (located : Located) → filter_map f (located ∷ []) ≡ cons_option (f located) []
+one f located = refl
 
 append_none : (xs : List Bytes) → xs ++ [] ≡ xs
 append_none [] = refl
 append_none (x ∷ xs) = ap (λ ys. x ∷ ys) (append_none xs)
 
-pub gone_skip : {V : Type 0} (R : Bytes → V → Type 0) (N : Bytes → Type 0) (forms : List Located) (i : ℕ) (located : Located) (table : BTreeMap Key V) → i < length forms → located ≡ get_or forms i located → subject located ≡ None
-    → IsTableOf R N (filter_map subject (take i forms)) table → IsTableOf R N (filter_map subject (take (i + 1) forms)) table
-gone_skip R N forms i located table lt is none h =
-    let same : filter_map subject (take (i + 1) forms) ≡ filter_map subject (take i forms) =
-        subjects_more forms i located lt is ∙ ap (λ (ws : List Bytes). filter_map subject (take i forms) ++ ws) (one_subject located None none []) ∙ append_none (filter_map subject (take i forms)) in
-    subst (λ (ws : List Bytes). IsTableOf R N ws table) (sym same) h
+words_more : (f : Located → Option Bytes) (forms : List Located) (i : ℕ) (located : Located) → i < length forms → located ≡ get_or forms i located → filter_map f (take (i + 1) forms) ≡ filter_map f (take i forms) ++ cons_option (f located) []
+words_more f forms i located lt is =
+    ap (filter_map f) (take_more forms i located lt) ∙ filter_map-append f (take i forms) (get_or forms i located ∷ [])
+    ∙ ap (λ (l : Located). filter_map f (take i forms) ++ cons_option (f l) []) (sym is)
 
-pub gone_more : {V : Type 0} (R : Bytes → V → Type 0) (N : Bytes → Type 0) (forms : List Located) (i : ℕ) (located : Located) (old new : BTreeMap Key V) (word text : Bytes) → i < length forms → located ≡ get_or forms i located
-    → subject located ≡ Some word → text ≡ word → IsTableOf R N (filter_map subject (take i forms)) old → IsGoneThrough R N old new text → IsTableOf R N (filter_map subject (take (i + 1) forms)) new
-gone_more R N forms i located old new word text lt is some same h gone =
-    let more : filter_map subject (take (i + 1) forms) ≡ filter_map subject (take i forms) ++ word ∷ [] =
-        subjects_more forms i located lt is ∙ ap (λ (ws : List Bytes). filter_map subject (take i forms) ++ ws) (one_subject located (Some word) some []) in
-    subst (λ (ws : List Bytes). IsTableOf R N ws new) (sym more) (table_of_more R N (filter_map subject (take i forms)) old new word h (subst (IsGoneThrough R N old new) same gone))
+pub words_skip : (f : Located → Option Bytes) (forms : List Located) (i : ℕ) (located : Located) → i < length forms → located ≡ get_or forms i located → f located ≡ None → filter_map f (take (i + 1) forms) ≡ filter_map f (take i forms)
+words_skip f forms i located lt is none =
+    words_more f forms i located lt is ∙ ap (λ (o : Option Bytes). filter_map f (take i forms) ++ cons_option o []) none ∙ append_none (filter_map f (take i forms))
+
+pub words_one_more : (f : Located → Option Bytes) (forms : List Located) (i : ℕ) (located : Located) (word : Bytes) → i < length forms → located ≡ get_or forms i located → f located ≡ Some word → filter_map f (take (i + 1) forms) ≡ filter_map f (take i forms) ++ word ∷ []
+words_one_more f forms i located word lt is some = words_more f forms i located lt is ∙ ap (λ (o : Option Bytes). filter_map f (take i forms) ++ cons_option o []) some
+
+pub gone_skip : {V : Type 0} (f : Located → Option Bytes) (R : Bytes → V → Type 0) (N : Bytes → Type 0) (before : List Bytes) (forms : List Located) (i : ℕ) (located : Located) (table : BTreeMap Key V) → i < length forms
+    → located ≡ get_or forms i located → f located ≡ None → IsTableOf R N (before ++ filter_map f (take i forms)) table → IsTableOf R N (before ++ filter_map f (take (i + 1) forms)) table
+gone_skip f R N before forms i located table lt is none h = subst (λ (ws : List Bytes). IsTableOf R N (before ++ ws) table) (sym (words_skip f forms i located lt is none)) h
+
+append_assoc : (xs ys zs : List Bytes) → xs ++ (ys ++ zs) ≡ (xs ++ ys) ++ zs
+append_assoc [] ys zs = refl
+append_assoc (x ∷ xs) ys zs = ap (λ ws. x ∷ ws) (append_assoc xs ys zs)
+
+pub gone_more : {V : Type 0} (f : Located → Option Bytes) (R : Bytes → V → Type 0) (N : Bytes → Type 0) (before : List Bytes) (forms : List Located) (i : ℕ) (located : Located) (old new : BTreeMap Key V) (word text : Bytes) → i < length forms
+    → located ≡ get_or forms i located → f located ≡ Some word → text ≡ word → IsTableOf R N (before ++ filter_map f (take i forms)) old → IsGoneThrough R N old new text → IsTableOf R N (before ++ filter_map f (take (i + 1) forms)) new
+gone_more f R N before forms i located old new word text lt is some same h gone =
+    let more : before ++ filter_map f (take (i + 1) forms) ≡ (before ++ filter_map f (take i forms)) ++ word ∷ [] =
+        ap (λ (ws : List Bytes). before ++ ws) (words_one_more f forms i located word lt is some) ∙ append_assoc before (filter_map f (take i forms)) (word ∷ []) in
+    subst (λ (ws : List Bytes). IsTableOf R N ws new) (sym more) (table_of_more R N (before ++ filter_map f (take i forms)) old new word h (subst (IsGoneThrough R N old new) same gone))
 
 -- ---- what tells something of a word has it as its subject
 
@@ -133,3 +140,67 @@ inherits_by {V = V} forms told table same noted = λ word none. go word none (fi
     go word none (Some near) e = notes.right word near e
     go word none None e = λ other has chain.
         each_among (λ w. find table.nearest w ≡ None → NeedsNone (links forms) table.own w) (filter_map subject forms) word notes.all (chain_among forms kinds.Relation word other chain) e none other has chain
+
+-- ---- the words to which links lead
+
+third_of_texts : (parts : List Form) (a b c : Bytes) (more : List Bytes) → word_texts parts ≡ Some (a ∷ b ∷ c ∷ more) → third_text parts ≡ Some c
+third_of_texts [] a b c more e = absurd (cc)
+third_of_texts (p ∷ parts) a b c more e = go (word_text p) (word_texts parts) refl e
+  where
+    go : (o : Option Bytes) (rest : Option (List Bytes)) → word_texts parts ≡ rest → text_before o rest ≡ Some (a ∷ b ∷ c ∷ more) → third_text (p ∷ parts) ≡ Some c
+    go (Some x) (Some ys) is e = let tail : word_texts parts ≡ Some (b ∷ c ∷ more) = is ∙ (cc) in from_second parts tail
+      where
+        from_second : (parts : List Form) → word_texts parts ≡ Some (b ∷ c ∷ more) → third_text (p ∷ parts) ≡ Some c
+        from_second [] k = absurd (cc)
+        from_second (q ∷ []) k = let s : second_text (q ∷ []) ≡ Some c = second_of_texts (q ∷ []) b c more k in absurd (cc)
+        from_second (q ∷ r ∷ parts) k = second_of_texts (q ∷ r ∷ parts) b c more k
+    go (Some x) None is e = absurd (cc)
+    go None (Some ys) is e = absurd (cc)
+    go None None is e = absurd (cc)
+
+pub link_object : (located : Located) (link : Link) → told_link located ≡ Some link → object located ≡ Some link.high
+link_object located link e = go (word_texts (parts_of located.form)) refl e
+  where
+    by_kind : (a b c : Bytes) (k : Option ChainKind) → link_of_kind b c located.place k ≡ Some link → c ≡ link.high
+    by_kind a b c (Some k) e = cc
+    by_kind a b c None e = absurd (cc)
+    go : (o : Option (List Bytes)) → word_texts (parts_of located.form) ≡ o → link_of_words located.place o ≡ Some link → object located ≡ Some link.high
+    go (Some (a ∷ b ∷ c ∷ [])) is e = third_of_texts (parts_of located.form) a b c [] is ∙ ap (λ w. Some w) (by_kind a b c (kind_of a) e)
+    go (Some []) is e = absurd (cc)
+    go (Some (a ∷ [])) is e = absurd (cc)
+    go (Some (a ∷ b ∷ [])) is e = absurd (cc)
+    go (Some (a ∷ b ∷ c ∷ d ∷ more)) is e = absurd (cc)
+    go None is e = absurd (cc)
+
+pub high_among : (forms : List Located) (link : Link) → Contains (links forms) link → Among (filter_map object forms) link.high
+high_among [] link (n, lt, is) = absurd (omega (arith, lt))
+high_among (located ∷ forms) link h = go (told_link located) refl h (high_among forms link)
+  where
+    here : (first : Link) → told_link located ≡ Some first → first ≡ link → Among (filter_map object (located ∷ forms)) link.high
+    here first told is =
+        subst (λ (o : Option Bytes). Among (cons_option o (filter_map object forms)) link.high) (sym (link_object located first told))
+        (among_here (filter_map object forms) link.high first.high (ap (λ (l : Link). l.high) (sym is)))
+    later : Among (filter_map object forms) link.high → Among (filter_map object (located ∷ forms)) link.high
+    later h = kept (object located)
+      where
+        kept : (o : Option Bytes) → Among (cons_option o (filter_map object forms)) link.high
+        kept None = h
+        kept (Some word) = among_later (filter_map object forms) link.high word h
+    go : (o : Option Link) → told_link located ≡ o → Contains (cons_option o (links forms)) link → (Contains (links forms) link → Among (filter_map object forms) link.high) → Among (filter_map object (located ∷ forms)) link.high
+    go None told h more = later (more h)
+    go (Some first) told (zero, lt, is) more = here first told is
+    go (Some first) told (suc n, lt, is) more = later (more (n, omega (arith, lt), is))
+
+-- a word to which a relation chain leads is among the last words of told forms
+pub reached_among : (forms : List Located) (low high : Bytes) → Chain (links forms) kinds.Relation low high → Among (filter_map object forms) high
+reached_among forms low high c = go (length c.chain) (walk_of (links forms) low high c) some
+  where
+    some : length c.chain ≡ 0 → ⊥
+    some e = empty c.chain c.is e
+      where
+        empty : (chain : List Link) → IsChain kinds.Relation chain → length chain ≡ 0 → ⊥
+        empty [] is e = is
+        empty (link ∷ chain) is e = absurd (omega (arith, e))
+    go : (n : ℕ) → Walk (links forms) low n high → (n ≡ 0 → ⊥) → Among (filter_map object forms) high
+    go zero walk some = absurd (some refl)
+    go (suc n) walk some = subst (Among (filter_map object forms)) walk.to (high_among forms walk.link walk.told)

@@ -68,6 +68,10 @@ relation_classes =
 abbrev pub variable_classes : List ClassArity
 variable_classes = gives (codes "VariableArityRelation") Any ∷ []
 
+-- classes of functions, then of relations, then of relations with any number of arguments
+abbrev pub arity_classes : List ClassArity
+arity_classes = function_classes ++ relation_classes ++ variable_classes
+
 -- the first of the classes to which an instance chain leads from the word gives the arity, and where there is none, nothing is given
 abbrev pub IsByClass : List Link → Bytes → List ClassArity → Option Arity → Type 0
 IsByClass links word [] given = given ≡ None
@@ -85,7 +89,7 @@ OrElse None Next given = Next given
 -- the word's own arity: that of a built-in word, its first told valence, or by the classes of functions, of relations, and of relations with any number of arguments
 abbrev pub IsOwnArity : List Located → Bytes → Option Arity → Type 0
 IsOwnArity forms word =
-    OrElse (built_in word) (OrElse (told_valence forms word) (IsByClass (links forms) word (function_classes ++ relation_classes ++ variable_classes)))
+    OrElse (built_in word) (OrElse (told_valence forms word) (IsByClass (links forms) word arity_classes))
 
 abbrev pub HasOwnArity : List Located → Bytes → Type 0
 HasOwnArity forms word = (arity : Arity) × IsOwnArity forms word (Some arity)

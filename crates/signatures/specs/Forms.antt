@@ -1,5 +1,5 @@
 -- Told forms as the code finds them.
-use Rattle.std.specs.Prelude.{ℕ, List, [], ◌∷◌, Option, Some, None, nat_eq, if◌then◌else◌}
+use Rattle.std.specs.Prelude.{ℕ, List, [], ◌∷◌, Option, Some, None, Bool, true, false, nat_eq, if◌then◌else◌}
 use Rattle.std.specs.Borrow.{Bor}
 use Rattle.std.specs.Option.{option_map}
 use Rattle.kif_tree.specs.Terms.{Bytes}
@@ -17,6 +17,19 @@ second_text _ = None
 -- the word that a told form speaks of: its second part, where that is a word
 abbrev pub subject : Located → Option Bytes
 subject located = second_text (parts_of located.form)
+
+abbrev pub third_text : List Form → Option Bytes
+third_text (head ∷ second ∷ third ∷ more) = word_text third
+third_text _ = None
+
+-- the third part, where it is a word
+abbrev pub object : Located → Option Bytes
+object located = third_text (parts_of located.form)
+
+-- the second part or the third one, where it is a word
+abbrev pub told_word : Bool → Located → Option Bytes
+told_word true located = subject located
+told_word false located = object located
 
 abbrev pub text_in : Option (Bor Bytes) → Option Bytes
 text_in word = option_map (λ (text : Bor Bytes). text.now) word

@@ -117,6 +117,26 @@ pub fn subject_of(located: &Located) -> Option<&Text>
     word_of(second)
 }
 
+/// The third part of the form, where that is a word.
+fn object_of(located: &Located) -> Option<&Text>
+    ensures { MatchOption result (spec.object located.now ≡ None) (λ word. spec.object located.now ≡ Some word.now) }
+{
+    let [_, _, third, ..] = parts_of(&located.form) else {
+        return None;
+    };
+    word_of(third)
+}
+
+/// The second part of the form, or the third one, where that is a word.
+pub fn told_word(located: &Located, is_second: bool) -> Option<&Text>
+    ensures { MatchOption result (spec.told_word is_second located.now ≡ None) (λ word. spec.told_word is_second located.now ≡ Some word.now) }
+{
+    if is_second {
+        return subject_of(located);
+    }
+    object_of(located)
+}
+
 fn pair_of<'a>(head: Option<&'a Text>, first: Option<&'a Text>, second: Option<&'a Text>, place: Place) -> Option<FoundPair<'a>>
     ensures { option_map spec.found_pair result ≡ told.pair_of_words place (spec.three_texts (spec.text_in head.entry) (spec.text_in first.entry) (spec.text_in second.entry)) }
 {
