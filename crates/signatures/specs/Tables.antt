@@ -8,14 +8,19 @@ use Rattle.signatures.specs.declared.told.TypeTold.{TypeTold}
 use Rattle.signatures.specs.declared.signatures.ArgumentTypes.{ArgumentTypes}
 use Rattle.signatures.specs.declared.signatures.Signatures.{Signatures}
 use Rattle.signatures.specs.WordTables.{find}
-use Rattle.signatures.specs.Inherited.{value_in}
-use Rattle.signatures.specs.Arities.{IsArity}
+use Rattle.signatures.specs.Inherited.{first_found, value_in}
+use Rattle.signatures.specs.declared.inherited.Inherited.{Inherited}
+use Rattle.signatures.specs.Arities.{built_in, IsArity}
 use Rattle.signatures.specs.Types.{AreTypes, ranges}
 use Rattle.signatures.specs.Relations.{AreRelationNames}
 
+-- the arity of a built-in word, or else the one that the table has
+abbrev pub arity_by : Inherited Arity → Bytes → Arity
+arity_by table word = unwrap_or (first_found (built_in word) (value_in table word)) Unstated
+
 -- the arity that the tables have for the word
 abbrev pub arity_in : Signatures → Bytes → Arity
-arity_in tables word = unwrap_or (value_in tables.arities word) Unstated
+arity_in tables word = arity_by tables.arities word
 
 -- the types that the first table of this argument number has for the word
 abbrev pub types_at : List ArgumentTypes → Bytes → ℕ → List TypeTold

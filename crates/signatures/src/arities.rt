@@ -154,7 +154,8 @@ fn add_own(alloc: Global, valences: &BTreeMap<Vec<u8>, Arity>, taxonomy: &Taxono
     let Some(arity) = own_arity(valences, taxonomy, word) else {
         return Ok(());
     };
-    set(alloc, table, word, arity)
+    set(alloc, table, word, arity)?;
+    Ok(())
 }
 
 /// Gives the second words of the forms, or the third ones, their own arities.
