@@ -2,5 +2,6 @@ pub mod LayerLaws
 pub mod StandinLaws
 pub mod SubjectLaws
 pub mod ArityLaws
+pub mod TypeLaws
 pub mod WordTableLaws
 pub mod FormLaws

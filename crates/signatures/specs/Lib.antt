@@ -7,4 +7,5 @@ pub mod Forms
 pub mod WordTables
 pub mod Inherited
 pub mod OwnArities
+pub mod TypeTables
 pub mod Tables

@@ -8,6 +8,7 @@ mod nearest;
 mod signatures;
 mod standin;
 mod told;
+mod types;
 mod word_table;
 
 pub use signatures::Signatures;
