@@ -1,5 +1,5 @@
 -- Chains of words against paths of numbers.
-use Rattle.std.proofs.Common.{◌≡◌, ◌≢◌, ℕ, suc, zero, ◌+◌, ◌<◌, ◌≤◌, ◌⊎◌, List, [], ◌∷◌, ◌++◌, map, filter, length, get_or, take, drop, Bool, true, false, if◌then◌else◌, refl, sym, ap, ap₂, subst, ◌∙◌, arith, inl, inr}
+use Rattle.std.proofs.Common.{◌≡◌, ◌≢◌, ℕ, suc, zero, ◌<◌, ◌⊎◌, List, [], ◌∷◌, ◌++◌, map, filter, length, get_or, take, drop, Bool, true, false, if◌then◌else◌, refl, sym, ap, subst, ◌∙◌, arith, inl, inr}
 use Rattle.std.specs.Prelude.{Contains, MatchBool, Option, Some, None}
 use Rattle.std.specs.BTreeMap.{BTreeMap}
 use Rattle.std.specs.declared.alloc.Global.{Global}
@@ -21,7 +21,7 @@ use Rattle.taxonomy.specs.declared.told.ChainKind.TheVariants as kinds
 use Rattle.taxonomy.specs.declared.told.Told.{Told}
 use Rattle.taxonomy.specs.Chains.{Joins, OfKind, IsChain, Chain, later_kind, parents, as_told, IsAtOrAbove}
 use Rattle.taxonomy.specs.Disjoint.{Separates, AreNotDisjoint, AreDisjointBy}
-use Rattle.taxonomy.specs.Graph.{Follows, Path, IsClosure}
+use Rattle.taxonomy.specs.Graph.{Follows, Path}
 use Rattle.taxonomy.specs.Names.{AreNumbered, number_of}
 use Rattle.taxonomy.specs.Numbered.{word, named, named_group, AreBelow, LinksWithin}
 use Rattle.taxonomy.specs.Runs.{has}
@@ -108,8 +108,8 @@ path_of_chain words links kind edges are within distinct (link ∷ chain) told o
     let kind_is : found.0.kind ≡ kind = ap (λ (l : Link). l.kind) found.2 ∙ of_kind.0 in
     let edge_in : Contains edges (edge_of found.0) = each_in (λ (l : NumberedLink). l.kind ≡ kind → Contains edges (edge_of l)) links found.0 found.1 are.all kind_is in
     let later : Path edges found.0.high high =
-        path_of_chain words links kind edges are within distinct chain told.1 of_kind.1 found.0.high high inside.1 below
-        (subst (λ (text : Bytes). Joins chain text (word words high)) (sym (ap (λ (l : Link). l.high) found.2)) joins.1)
+    path_of_chain words links kind edges are within distinct chain told.1 of_kind.1 found.0.high high inside.1 below
+    (subst (λ (text : Bytes). Joins chain text (word words high)) (sym (ap (λ (l : Link). l.high) found.2)) joins.1)
     in
     subst (λ (k : ℕ). Path edges k high) same (path_before edges (edge_of found.0) high edge_in later)
 
@@ -139,6 +139,7 @@ reaches_is words links kind sets runs low high text b within distinct s lt is be
   where
     at_row : runs ≡ get_or sets high []
     at_row = get_or_read sets high runs (omega (arith, s.closed.long, below)) row []
+
     go : (b : Bool) → b ≡ has runs low → MatchBool b (Passes (map (named words) links) kind (word words low) (word words high)) (Passes (map (named words) links) kind (word words low) (word words high) → ⊥)
     go true e =
         let p = s.closed.sound low high (ap (λ (x : List Run). has x low) (sym at_row) ∙ sym e) in
@@ -243,6 +244,7 @@ only_one links words group text but n none among above = go (cases_order n but)
   where
     no_way : n ≢ but → ⊥
     no_way apart = each_in (λ (k : ℕ). IsOther (Some but) k → IsAtOrAbove links text (word words k) → ⊥) group n among none apart above
+
     go : ((n ≡ but) ⊎ ((n < but) ⊎ (but < n))) → n ≡ but
     go (inl same) = same
     go (inr (inl less)) = absurd (no_way (λ e. absurd (omega (arith, e, less))))

@@ -1,5 +1,5 @@
 -- What the parts of a form tell.
-use Rattle.std.proofs.Common.{◌≡◌, ℕ, suc, zero, ◌+◌, ◌-◌, ◌<◌, ◌≤◌, ◌⊎◌, List, [], ◌∷◌, ◌++◌, length, get_or, take, drop, Bool, true, false, refl, sym, ap, subst, ◌∙◌, arith, if◌then◌else◌, codes}
+use Rattle.std.proofs.Common.{◌≡◌, ℕ, suc, zero, ◌+◌, ◌<◌, ◌≤◌, List, [], ◌∷◌, ◌++◌, length, get_or, take, drop, Bool, true, false, refl, sym, ap, subst, ◌∙◌, arith, if◌then◌else◌, codes}
 use Rattle.std.specs.Prelude.{Option, Some, None, is_some}
 use Rattle.std.proofs.lemmas.List.{take_more}
 use Rattle.kif_tree.specs.Terms.{Bytes}
@@ -11,7 +11,7 @@ use Rattle.kif_tree.specs.declared.place.Place.{Place}
 use Rattle.std.specs.Str.{bytes_eq}
 use Rattle.taxonomy.specs.Forms.{IsDisjointForm}
 use Rattle.taxonomy.specs.declared.told.ChainKind.{ChainKind}
-use Rattle.taxonomy.specs.Told.{word_text, word_layer, text_before, word_texts, parts_of, parts_layer, told_words, link_of_words, link_of_kind, kind_of, told_link, DisjointWords, parts_a_whole, disjoint_of_words, told_disjoint}
+use Rattle.taxonomy.specs.Told.{word_text, word_layer, text_before, word_texts, parts_of, parts_layer, link_of_words, link_of_kind, kind_of, told_link, parts_a_whole, disjoint_of_words, told_disjoint}
 
 -- ---- one form
 
@@ -82,6 +82,7 @@ no_link located parts e h = go (word_texts parts) refl
   where
     back : (o : Option (List Bytes)) → word_texts parts ≡ o → link_of_words located.place o ≡ told_link located
     back o is = ap (link_of_words located.place) (sym is ∙ ap word_texts e)
+
     go : (o : Option (List Bytes)) → word_texts parts ≡ o → None ≡ told_link located
     go None is = back None is
     go (Some texts) is = sym (no_link_of_texts located.place texts (λ three. h (sym (texts_length parts texts is) ∙ three))) ∙ back (Some texts) is

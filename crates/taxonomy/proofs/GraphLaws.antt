@@ -5,7 +5,7 @@ use Rattle.std.proofs.lemmas.List.{get_or_default, get_or_read, length-set, take
 use Rattle.std.proofs.lemmas.Bool.{cases_order}
 use Rattle.std.proofs.lemmas.Bool.Decides.{nat_tests}
 use Rattle.std.proofs.Math.ListN.{get_or-eq_default}
-use Rattle.sigma_base.specs.Lists.{Each, each_append, each_left}
+use Rattle.sigma_base.specs.Lists.{Each, each_append}
 use Rattle.taxonomy.specs.declared.closure.Edge.{Edge}
 use Rattle.taxonomy.specs.declared.runs.Run.{Run}
 use Rattle.taxonomy.specs.Runs.{has, in_run, IsUnion, Lacks}
@@ -150,6 +150,7 @@ came edge old new within g low high h = go (set_cases [] old edge.high high g.gr
   where
     there : has (set_of (slice_set old edge.high g.grown) high) low ≡ true
     there = subst (λ (x : Sets). has (set_of x high) low ≡ true) g.is h
+
     go : (((high ≡ edge.high) × (set_of (slice_set old edge.high g.grown) high ≡ g.grown)) ⊎ ((high ≡ edge.high → ⊥) × (set_of (slice_set old edge.high g.grown) high ≡ set_of old high)))
         → ((has (set_of old high) low ≡ true) ⊎ ((high ≡ edge.high) × (has (set_of old edge.low) low ≡ true)))
     go (inr (apart, other)) = inl (subst (λ (x : List Run). has x low ≡ true) other there)
@@ -181,6 +182,7 @@ partial_grows edges count edge old new told within g partial = record {
     below : (low high : ℕ) → ((has (set_of old high) low ≡ true) ⊎ ((high ≡ edge.high) × (has (set_of old edge.low) low ≡ true))) → low < count
     below low high (inl before) = partial.within low high before
     below low high (inr (same, along_edge)) = partial.within low edge.low along_edge
+
     leads : (low high : ℕ) → ((has (set_of old high) low ≡ true) ⊎ ((high ≡ edge.high) × (has (set_of old edge.low) low ≡ true))) → Path edges low high
     leads low high (inl before) = partial.sound low high before
     leads low high (inr (same, along_edge)) = subst (λ (k : ℕ). Path edges low k) (sym same) (path_more edges edge low told (partial.sound low edge.low along_edge))
@@ -218,11 +220,13 @@ single count sets s low high h = go (cases_order high count)
   where
     here : high < count → (high < count) × (low ≡ high)
     here lt = (lt, has_only high low (subst (λ (x : List Run). has x low ≡ true) (s.own high lt) h))
+
     outside : count ≤ high → (high < count) × (low ≡ high)
     outside le =
         let nothing : set_of sets high ≡ [] = get_or-eq_default sets [] (omega (arith, s.long)) in
         let no_way : false ≡ true = subst (λ (x : List Run). has x low ≡ true) nothing h in
         absurd (cc)
+
     go : ((high ≡ count) ⊎ ((high < count) ⊎ (count < high))) → (high < count) × (low ≡ high)
     go (inl same) = outside (omega arith)
     go (inr (inl below)) = here below
@@ -245,8 +249,10 @@ round_more edges i d old mid new changed grew lt inside round step = go changed 
   where
     told : Contains edges (get_or edges i d)
     told = contains_at edges i d lt
+
     within : (get_or edges i d).high < length mid
     within = omega (arith, (each_in (λ (edge : Edge). (edge.low < length old) × (edge.high < length old)) edges (get_or edges i d) told inside).1, round.partial.long)
+
     go : (changed grew : Bool) → MatchBool changed (all_absent (length old) mid < all_absent (length old) old) ((mid ≡ old) × ArePassed (take i edges) mid)
         → MatchBool grew (Grows (get_or edges i d) mid new) (Stays (get_or edges i d) mid new) → IsRound edges (take (i + 1) edges) old new (changed || grew)
     go true true less grows = record {
@@ -272,5 +278,5 @@ round_more edges i d old mid new changed grew lt inside round step = go changed 
 pub round_ends : (edges : List Edge) (count : ℕ) (old new : Sets) (changed : Bool) → changed ≡ false → length old ≡ count → IsRound edges edges old new changed → IsClosure edges count new
 round_ends edges count old new changed none long round =
     let outcome : MatchBool false (all_absent (length old) new < all_absent (length old) old) ((new ≡ old) × ArePassed edges new) =
-        subst (λ (b : Bool). MatchBool b (all_absent (length old) new < all_absent (length old) old) ((new ≡ old) × ArePassed edges new)) none round.outcome in
+    subst (λ (b : Bool). MatchBool b (all_absent (length old) new < all_absent (length old) old) ((new ≡ old) × ArePassed edges new)) none round.outcome in
     closed edges count new (subst (λ (n : ℕ). IsPartial edges n new) long round.partial) outcome.1

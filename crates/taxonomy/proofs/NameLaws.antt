@@ -1,7 +1,6 @@
 -- A table of words and their numbers that gets one more word.
-use Rattle.std.proofs.Common.{◌≡◌, ℕ, suc, zero, ◌+◌, ◌<◌, ◌≤◌, ◌⊎◌, List, [], ◌∷◌, ◌++◌, length, get_or, Bool, true, false, cond, refl, sym, ap, subst, ◌∙◌, arith, inl, inr}
+use Rattle.std.proofs.Common.{◌≡◌, ℕ, suc, zero, ◌+◌, ◌<◌, ◌⊎◌, List, [], ◌∷◌, ◌++◌, length, get_or, Bool, true, false, cond, refl, sym, ap, subst, ◌∙◌, arith, inl, inr}
 use Rattle.std.specs.Prelude.{Contains, Option, Some, None}
-use Rattle.std.specs.Str.{bytes_eq}
 use Rattle.std.specs.BTreeMap.{BTreeMap, insert_entry}
 use Rattle.std.specs.Map.{lookup}
 use Rattle.std.specs.Cmp.Lexicographic.{slice_cmp}
@@ -16,7 +15,7 @@ use Rattle.std.proofs.lemmas.Map.Text.{is_eq-slice_cmp}
 use Rattle.std.proofs.lemmas.Map.Lookups.{exact_bytes}
 use Rattle.std.proofs.lemmas.Slice.Eq.{bytes_eq-Decides}
 use Rattle.kif_tree.specs.Terms.{Bytes}
-use Rattle.taxonomy.specs.Names.{AreNumbered, Adds, number_of}
+use Rattle.taxonomy.specs.Names.{AreNumbered, number_of}
 
 abbrev Key : Type 0
 Key = Vec ℕ Global
@@ -77,13 +76,16 @@ numbered_more old new words key word h fresh is entries = record {
   where
     looked : (text : Bytes) → number_of new text ≡ cond (at text key) (Some (length words)) (number_of old text)
     looked text = ap (λ (es : List (Key × ℕ)). lookup (at text) es) entries ∙ insert_lookup old.entries key (length words) text
+
     longer : length (words ++ word ∷ []) ≡ length words + 1
     longer = length-append words (word ∷ [])
+
     found_in : (text : Bytes) (n : ℕ) (b : Bool) → at text key ≡ b → cond b (Some (length words)) (number_of old text) ≡ Some n → (n < length (words ++ word ∷ [])) × (get_or (words ++ word ∷ []) n [] ≡ text)
     found_in text n true test e =
         let same : length words ≡ n = cc in
         (omega (arith, longer), subst (λ (k : ℕ). get_or (words ++ word ∷ []) k [] ≡ text) same (get_or_last words word ∙ sym is ∙ sym (at_true text key test)))
     found_in text n false test e = let there = h.found text n e in (omega (arith, longer, there.0), get_or_left words word n there.0 ∙ there.1)
+
     before : (n : ℕ) → n < length words → number_of new (get_or (words ++ word ∷ []) n []) ≡ Some n
     before n lt =
         subst (λ (text : Bytes). number_of new text ≡ Some n) (sym (get_or_left words word n lt))
@@ -92,11 +94,13 @@ numbered_more old new words key word h fresh is entries = record {
         other : (b : Bool) → at (get_or words n []) key ≡ b → cond b (Some (length words)) (number_of old (get_or words n [])) ≡ Some n
         other true test = absurd (fresh (contains_word words n word lt (at_true (get_or words n []) key test ∙ is)))
         other false test = h.known n lt
+
     last : (n : ℕ) → n ≡ length words → number_of new (get_or (words ++ word ∷ []) n []) ≡ Some n
     last n e =
         subst (λ (k : ℕ). number_of new (get_or (words ++ word ∷ []) k []) ≡ Some k) (sym e)
         (subst (λ (text : Bytes). number_of new text ≡ Some (length words)) (sym (get_or_last words word))
         (looked word ∙ ap (λ (b : Bool). cond b (Some (length words)) (number_of old word)) (at_same word key (sym is))))
+
     known_in : (n : ℕ) → n < length (words ++ word ∷ []) → ((n ≡ length words) ⊎ ((n < length words) ⊎ (length words < n))) → number_of new (get_or (words ++ word ∷ []) n []) ≡ Some n
     known_in n lt (inl same) = last n same
     known_in n lt (inr (inl below)) = before n below

@@ -1,5 +1,5 @@
 -- Numbers that stand for words while words are added.
-use Rattle.std.proofs.Common.{◌≡◌, ℕ, ◌+◌, ◌<◌, ◌≤◌, List, [], ◌∷◌, ◌++◌, map, length, get_or, refl, sym, ap, ap₂, subst, ◌∙◌, arith}
+use Rattle.std.proofs.Common.{◌≡◌, ℕ, ◌<◌, ◌≤◌, List, [], ◌∷◌, ◌++◌, map, length, refl, sym, ap, ap₂, subst, ◌∙◌, arith}
 use Rattle.std.specs.Prelude.{Option, Some, None}
 use Rattle.std.specs.List.{filter_map, cons_option}
 use Rattle.std.proofs.lemmas.List.{append_assoc, append-nil, length-append, get_or_append_left, map-append}
@@ -7,7 +7,7 @@ use Rattle.kif_tree.specs.Terms.{Bytes}
 use Rattle.kif_tree.specs.declared.form.Form.{Form}
 use Rattle.kif_tree.specs.declared.place.Located.{Located}
 use Rattle.kif_tree.specs.declared.place.Place.{Place}
-use Rattle.sigma_base.specs.Lists.{Each, each_append, each_map, map_each}
+use Rattle.sigma_base.specs.Lists.{each_append, each_map, map_each}
 use Rattle.taxonomy.specs.declared.numbered.NumberedLink.{NumberedLink}
 use Rattle.taxonomy.specs.declared.numbered.NumberedGroup.{NumberedGroup}
 use Rattle.taxonomy.specs.declared.told.ChainKind.{ChainKind}
@@ -82,8 +82,10 @@ more_links form old mid new links longer kind low high place low_text high_text 
   where
     all : Extends old new
     all = extends_twice old mid new add_low.extends add_high.extends
+
     link : NumberedLink
     link = record { kind = kind; low = low; high = high; place = place }
+
     shown : named new link ≡ record { kind = kind; low = low_text; high = high_text; place = place }
     shown = ap₂ (λ (x y : Bytes). record { kind = kind; low = x; high = y; place = place }) (word_grows mid new low add_high.extends add_low.within ∙ add_low.stands ∙ low_is) (add_high.stands ∙ high_is)
 
@@ -154,5 +156,6 @@ more_groups form parts old new groups longer numbers found extends words is = re
   where
     group : NumberedGroup
     group = record { words = numbers; place = form.place }
+
     shown : named_group new group ≡ record { words = found.texts; place = form.place }
     shown = ap (λ (x : List Bytes). record { words = x; place = form.place }) (words.are ∙ words_of_texts parts found.texts found.words)

@@ -1,9 +1,11 @@
 -- Edges of links, and rows of what links tell.
-use Rattle.std.proofs.Common.{◌≡◌, ℕ, suc, zero, ◌+◌, ◌<◌, ◌≤◌, ◌⊎◌, List, [], ◌∷◌, ◌++◌, map, filter, length, get_or, take, Bool, true, false, if◌then◌else◌, refl, sym, ap, ap₂, subst, ◌∙◌, arith, inl, inr}
+use Rattle.std.proofs.Common.{◌≡◌, ℕ, suc, ◌+◌, ◌<◌, ◌⊎◌, List, [], ◌∷◌, ◌++◌, map, filter, length, get_or, take, Bool, true, false, if◌then◌else◌, refl, sym, ap, subst, ◌∙◌, arith, inl, inr}
 use Rattle.std.specs.Prelude.{Contains, slice_set}
 use Rattle.std.specs.Str.{bytes_eq}
 use Rattle.std.proofs.lemmas.List.{take_more, length-set, map-append}
-use Rattle.std.proofs.lemmas.List.Elements.{Contains-append_left, Contains-append_right, Contains-push}
+use Rattle.std.proofs.lemmas.List.Elements.{Contains-append_left, Contains-push}
+use Rattle.std.specs.List.Sorted.{IsPermutation}
+use Rattle.std.proofs.lemmas.List.Sorted.{Contains-permutation, IsPermutation-sym}
 use Rattle.std.proofs.lemmas.Slice.Eq.{bytes_eq-Decides}
 use Rattle.kif_tree.specs.Terms.{Bytes}
 use Rattle.sigma_base.specs.Lists.{Each, each_append, each_map}
@@ -13,6 +15,7 @@ use Rattle.taxonomy.specs.declared.told.ChainKind.{ChainKind}
 use Rattle.taxonomy.specs.declared.told.ChainKind.TheVariants as kinds
 use Rattle.taxonomy.specs.declared.told.Told.{Told}
 use Rattle.taxonomy.specs.Chains.{parents, as_told}
+use Rattle.taxonomy.specs.Graph.{AreWithin}
 use Rattle.taxonomy.specs.Numbered.{word, named, LinksWithin}
 use Rattle.taxonomy.specs.Tables.{edge_of, AreEdges, AreDistinct, AreRows}
 use Rattle.taxonomy.specs.Told.{Link}
@@ -95,10 +98,13 @@ rows_more words links i d rows new lt within distinct h is = subst (AreRows word
   where
     link : NumberedLink
     link = get_or links i d
+
     longer : List Told
     longer = get_or rows link.low [] ++ as_told (named words link) ∷ []
+
     inside : (link.low < length words) × (link.high < length words)
     inside = each_in (λ (l : NumberedLink). (l.low < length words) × (l.high < length words)) links link (contains_at links i d lt) within
+
     go : (n : ℕ) → n < length words → (((n ≡ link.low) × (get_or (slice_set rows link.low longer) n [] ≡ longer)) ⊎ ((n ≡ link.low → ⊥) × (get_or (slice_set rows link.low longer) n [] ≡ get_or rows n [])))
         → get_or (slice_set rows link.low longer) n [] ≡ parents (map (named words) (take i links) ++ named words link ∷ []) (word words n)
     go n below (inl (same, row)) =
@@ -109,3 +115,23 @@ rows_more words links i d rows new lt within distinct h is = subst (AreRows word
         row ∙ h.are n below
         ∙ sym (parents_skip (map (named words) (take i links)) (named words link) (word words n)
         (differ (word words link.low) (word words n) (λ e. apart (sym (distinct link.low n inside.0 below e)))))
+
+-- ---- all together
+
+pub edges_within : (kind : ChainKind) (count : ℕ) (links : List NumberedLink) (edges : List Edge) → LinksWithin count links → AreEdges kind links edges → AreWithin count edges
+edges_within kind count links edges within h =
+    each_map (IsEdgeOf kind links) (λ (edge : Edge). (edge.low < count) × (edge.high < count))
+    (λ edge w. let inside = each_in (λ (l : NumberedLink). (l.low < count) × (l.high < count)) links w.0 w.1 within in
+    (omega (arith, inside.0, ap (λ (e : Edge). e.low) w.3), omega (arith, inside.1, ap (λ (e : Edge). e.high) w.3))) edges h.told
+
+each_of_members : {X : Type 0} (P : X → Type 0) (xs : List X) → ((x : X) → Contains xs x → P x) → Each P xs
+each_of_members P [] h = tt
+each_of_members P (x ∷ xs) h = (h x (0, omega arith, refl), each_of_members P xs (λ y among. h y (suc among.0, omega (arith, among.1), among.2)))
+
+-- edges in another order
+pub edges_sorted : (kind : ChainKind) (links : List NumberedLink) (edges sorted : List Edge) → IsPermutation edges sorted → AreEdges kind links edges → AreEdges kind links sorted
+edges_sorted kind links edges sorted same h = record {
+  told = each_of_members (IsEdgeOf kind links) sorted (λ edge among. each_in (IsEdgeOf kind links) edges edge (Contains-permutation sorted edges edge (IsPermutation-sym edges sorted same) among) h.told);
+  all = each_map (λ (link : NumberedLink). link.kind ≡ kind → Contains edges (edge_of link)) (λ (link : NumberedLink). link.kind ≡ kind → Contains sorted (edge_of link))
+      (λ link w e. Contains-permutation edges sorted (edge_of link) same (w e)) links h.all;
+}

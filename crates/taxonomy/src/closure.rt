@@ -6,8 +6,8 @@ use crate::runs::{Run, Runs, missing, union};
 use sigma_base::{Listed, NoMemory};
 use std::alloc::Global;
 
-/// Leads from one number to another.
-#[derive(Clone, Copy, Debug)]
+/// Leads from one number to another. Edges are ordered by where they begin.
+#[derive(Clone, Copy, Debug, PartialEq, Eq, PartialOrd, Ord)]
 pub struct Edge {
     pub low: usize,
     pub high: usize,

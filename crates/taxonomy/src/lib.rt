@@ -5,9 +5,12 @@ mod closure;
 mod forms;
 mod names;
 mod numbered;
+mod order;
 mod runs;
 mod tables;
 mod taxonomy;
+#[cfg(test)]
+mod tests;
 mod told;
 
 pub use taxonomy::Taxonomy;

@@ -27,7 +27,12 @@ pub struct NumberedGroup {
 }
 
 /// Adds the link that the form tells, if it tells one.
-fn add_link(alloc: Global, names: &mut Names, links: &mut Vec<NumberedLink>, form: &Located) -> Result<(), NoMemory>
+fn add_link(
+    alloc: Global,
+    names: &mut Names,
+    links: &mut Vec<NumberedLink>,
+    form: &Located,
+) -> Result<(), NoMemory>
     requires { AreNumbered names.old.numbers names.old.words.items }
     ensures numbered { OnOk result (AreNumbered names.new.numbers names.new.words.items) }
     ensures added { OnOk result (AddsLink form.now names.old.words.items names.new.words.items links.old.items links.new.items) }
@@ -47,7 +52,11 @@ fn add_link(alloc: Global, names: &mut Names, links: &mut Vec<NumberedLink>, for
 }
 
 /// The links that the forms tell, in order.
-pub fn numbered_links(alloc: Global, names: &mut Names, forms: &[Located]) -> Result<Vec<NumberedLink>, NoMemory>
+pub fn numbered_links(
+    alloc: Global,
+    names: &mut Names,
+    forms: &[Located],
+) -> Result<Vec<NumberedLink>, NoMemory>
     requires { AreNumbered names.old.numbers names.old.words.items }
     ensures numbered { OnOk result (AreNumbered names.new.numbers names.new.words.items) }
     ensures extends { OnOk result (Extends names.old.words.items names.new.words.items) }
@@ -61,7 +70,12 @@ pub fn numbered_links(alloc: Global, names: &mut Names, forms: &[Located]) -> Re
 }
 
 /// Adds the number of the word, if the part is one.
-fn add_word(alloc: Global, names: &mut Names, numbers: &mut Listed<usize>, part: &Form) -> Result<(), NoMemory>
+fn add_word(
+    alloc: Global,
+    names: &mut Names,
+    numbers: &mut Listed<usize>,
+    part: &Form,
+) -> Result<(), NoMemory>
     requires { AreNumbered names.old.numbers names.old.words.items }
     ensures numbered { OnOk result (AreNumbered names.new.numbers names.new.words.items) }
     ensures added { OnOk result (AddsWord part.now names.old.words.items names.new.words.items numbers.old numbers.new) }
@@ -75,7 +89,11 @@ fn add_word(alloc: Global, names: &mut Names, numbers: &mut Listed<usize>, part:
 }
 
 /// The numbers of those parts that are words, in order.
-fn numbered_words(alloc: Global, names: &mut Names, parts: &[Form]) -> Result<Listed<usize>, NoMemory>
+fn numbered_words(
+    alloc: Global,
+    names: &mut Names,
+    parts: &[Form],
+) -> Result<Listed<usize>, NoMemory>
     requires { AreNumbered names.old.numbers names.old.words.items }
     ensures numbered { OnOk result (AreNumbered names.new.numbers names.new.words.items) }
     ensures extends { OnOk result (Extends names.old.words.items names.new.words.items) }
@@ -89,7 +107,12 @@ fn numbered_words(alloc: Global, names: &mut Names, parts: &[Form]) -> Result<Li
 }
 
 /// Adds the words that the form calls disjoint, if it does.
-fn add_group(alloc: Global, names: &mut Names, groups: &mut Vec<NumberedGroup>, form: &Located) -> Result<(), NoMemory>
+fn add_group(
+    alloc: Global,
+    names: &mut Names,
+    groups: &mut Vec<NumberedGroup>,
+    form: &Located,
+) -> Result<(), NoMemory>
     requires { AreNumbered names.old.numbers names.old.words.items }
     ensures numbered { OnOk result (AreNumbered names.new.numbers names.new.words.items) }
     ensures added { OnOk result (AddsGroup form.now names.old.words.items names.new.words.items groups.old.items groups.new.items) }
@@ -106,7 +129,11 @@ fn add_group(alloc: Global, names: &mut Names, groups: &mut Vec<NumberedGroup>, 
 }
 
 /// The words that each of the forms calls disjoint, in order.
-pub fn numbered_groups(alloc: Global, names: &mut Names, forms: &[Located]) -> Result<Vec<NumberedGroup>, NoMemory>
+pub fn numbered_groups(
+    alloc: Global,
+    names: &mut Names,
+    forms: &[Located],
+) -> Result<Vec<NumberedGroup>, NoMemory>
     requires { AreNumbered names.old.numbers names.old.words.items }
     ensures numbered { OnOk result (AreNumbered names.new.numbers names.new.words.items) }
     ensures extends { OnOk result (Extends names.old.words.items names.new.words.items) }

@@ -1,13 +1,12 @@
 //! What a taxonomy keeps: told links and disjoint words by numbers, what is told of each word, and the words below each word.
-ghost use Rattle.std.specs.Prelude.{◌≡◌, ◌<◌, ◌≤◌, ◌++◌, ◌∷◌, [], length, get_or, slice_set, IfOk, OnOk, MatchBool, MatchOption};
-ghost use Rattle.std.specs.List.{filter_map};
+ghost use Rattle.std.specs.Prelude.{◌≡◌, ◌<◌, ◌≤◌, ◌++◌, ◌∷◌, [], length, get_or, slice_set, IfOk, OnOk, MatchOption};
 ghost use Rattle.taxonomy.specs.Chains as chains;
 ghost use Rattle.taxonomy.specs.Disjoint as disjoint;
-ghost use Rattle.taxonomy.specs.Graph.{IsClosure};
+ghost use Rattle.taxonomy.specs.Names.{AreNumbered};
 ghost use Rattle.taxonomy.specs.Numbered as numbered;
 ghost use Rattle.taxonomy.specs.Tables as spec;
 
-use crate::closure::Edge;
+use crate::closure::{Edge, closure};
 use crate::names::Names;
 use crate::numbered::{NumberedGroup, NumberedLink};
 use crate::runs::{Runs, has};
@@ -32,7 +31,7 @@ pub struct Tables {
 
 /// Whether the kinds are the same.
 pub fn is_same_kind(kind: ChainKind, other: ChainKind) -> bool
-    ensures { MatchBool result (kind ≡ other) (kind ≡ other → ⊥) }
+    ensures { spec.Tells result (kind ≡ other) }
 {
     match kind {
         ChainKind::Class => match other {
@@ -51,7 +50,11 @@ pub fn is_same_kind(kind: ChainKind, other: ChainKind) -> bool
 }
 
 /// The links of the kind, as edges.
-pub fn edges_of(alloc: Global, links: &[NumberedLink], kind: ChainKind) -> Result<Vec<Edge>, NoMemory>
+pub fn edges_of(
+    alloc: Global,
+    links: &[NumberedLink],
+    kind: ChainKind,
+) -> Result<Vec<Edge>, NoMemory>
     ensures { IfOk result (λ edges. spec.AreEdges kind links.now edges.items) }
 {
     let mut edges = Vec::new(alloc);
@@ -79,7 +82,12 @@ fn empty_rows(alloc: Global, count: usize) -> Result<Vec<Listed<Told>>, NoMemory
 }
 
 /// Adds what the link tells of its first word.
-fn add_told(alloc: Global, words: &[Text], rows: &mut Vec<Listed<Told>>, link: NumberedLink) -> Result<(), NoMemory>
+fn add_told(
+    alloc: Global,
+    words: &[Text],
+    rows: &mut Vec<Listed<Told>>,
+    link: NumberedLink,
+) -> Result<(), NoMemory>
     requires low { link.low < length rows.old.items }
     requires high { link.high < length words.now }
     ensures { OnOk result (rows.new.items ≡ slice_set rows.old.items link.low (get_or rows.old.items link.low [] ++ chains.as_told (numbered.named words.now link) ∷ [])) }
@@ -94,7 +102,11 @@ fn add_told(alloc: Global, words: &[Text], rows: &mut Vec<Listed<Told>>, link: N
 }
 
 /// For each word what the links tell of it, in order.
-pub fn rows_of(alloc: Global, words: &[Text], links: &[NumberedLink]) -> Result<Vec<Listed<Told>>, NoMemory>
+pub fn rows_of(
+    alloc: Global,
+    words: &[Text],
+    links: &[NumberedLink],
+) -> Result<Vec<Listed<Told>>, NoMemory>
     requires within { numbered.LinksWithin (length words.now) links.now }
     requires distinct { spec.AreDistinct words.now }
     ensures { IfOk result (λ rows. spec.AreRows words.now links.now rows.items) }
@@ -106,9 +118,57 @@ pub fn rows_of(alloc: Global, words: &[Text], links: &[NumberedLink]) -> Result<
     Ok(rows)
 }
 
+/// For each word the words from which links of the kind lead to it, and itself.
+fn sets_of(
+    alloc: Global,
+    count: usize,
+    links: &[NumberedLink],
+    kind: ChainKind,
+) -> Result<Vec<Runs>, NoMemory>
+    requires { numbered.LinksWithin count links.now }
+    ensures { IfOk result (λ sets. spec.AreSets kind count links.now sets.items) }
+{
+    let mut edges = edges_of(alloc, links, kind)?;
+    // what lies below a number has mostly come to it before it is passed on
+    edges.sort()?;
+    let sets = closure(alloc, count, edges.as_slice())?;
+    Ok(sets)
+}
+
+/// The tables of the links and groups.
+pub fn tables_of(
+    alloc: Global,
+    names: Names,
+    links: Vec<NumberedLink>,
+    groups: Vec<NumberedGroup>,
+) -> Result<Tables, NoMemory>
+    requires names { AreNumbered names.numbers names.words.items }
+    requires links { numbered.LinksWithin (length names.words.items) links.items }
+    requires groups { numbered.GroupsWithin (length names.words.items) groups.items }
+    ensures tables { IfOk result (λ tables. spec.AreTables tables) }
+    ensures shown { IfOk result (λ tables. spec.shown tables ≡ spec.shown_as names.words.items links.items groups.items) }
+{
+    let rows = rows_of(alloc, names.words.as_slice(), links.as_slice())?;
+    let classes = sets_of(alloc, names.words.len(), links.as_slice(), ChainKind::Class)?;
+    let relations = sets_of(
+        alloc,
+        names.words.len(),
+        links.as_slice(),
+        ChainKind::Relation,
+    )?;
+    Ok(Tables {
+        names,
+        links,
+        groups,
+        rows,
+        classes,
+        relations,
+    })
+}
+
 /// Whether the number is another one than that which is left out.
 fn is_other(but: Option<usize>, number: usize) -> bool
-    ensures { MatchBool result (spec.IsOther but number) (spec.IsOther but number → ⊥) }
+    ensures { spec.Tells result (spec.IsOther but number) }
 {
     match but {
         Some(but) => number != but,
@@ -144,7 +204,7 @@ impl Tables {
     fn reaches(&self, kind: ChainKind, word: &[u8], high: usize) -> bool
         requires tables { spec.AreTables self.now }
         requires high { high < length self.now.names.words.items }
-        ensures { MatchBool result (spec.Passes (spec.shown self.now).links (chains.later_kind kind) word.now (numbered.word self.now.names.words.items high)) (spec.Passes (spec.shown self.now).links (chains.later_kind kind) word.now (numbered.word self.now.names.words.items high) → ⊥) }
+        ensures { spec.Tells result (spec.Passes (spec.shown self.now).links (chains.later_kind kind) word.now (spec.word_at self.now high)) }
     {
         let Some(low) = self.names.number(word) else {
             return false;
@@ -157,7 +217,7 @@ impl Tables {
     fn leads(&self, kind: ChainKind, low: &[u8], high: usize) -> bool
         requires tables { spec.AreTables self.now }
         requires high { high < length self.now.names.words.items }
-        ensures { MatchBool result (chains.Chain (spec.shown self.now).links kind low.now (numbered.word self.now.names.words.items high)) (chains.Chain (spec.shown self.now).links kind low.now (numbered.word self.now.names.words.items high) → ⊥) }
+        ensures { spec.Tells result (chains.Chain (spec.shown self.now).links kind low.now (spec.word_at self.now high)) }
     {
         for told in self.row(low) {
             if !is_same_kind(told.kind, kind) {
@@ -173,7 +233,7 @@ impl Tables {
     /// Whether a chain leads from one word to the other.
     pub fn is_above(&self, kind: ChainKind, low: &[u8], high: &[u8]) -> bool
         requires { spec.AreTables self.now }
-        ensures { MatchBool result (chains.Chain (spec.shown self.now).links kind low.now high.now) (chains.Chain (spec.shown self.now).links kind low.now high.now → ⊥) }
+        ensures { spec.Tells result (chains.Chain (spec.shown self.now).links kind low.now high.now) }
     {
         match self.names.number(high) {
             Some(number) => self.leads(kind, low, number),
@@ -185,7 +245,7 @@ impl Tables {
     fn is_at_or_above(&self, word: &[u8], number: usize) -> bool
         requires tables { spec.AreTables self.now }
         requires number { number < length self.now.names.words.items }
-        ensures { MatchBool result (chains.IsAtOrAbove (spec.shown self.now).links word.now (numbered.word self.now.names.words.items number)) (chains.IsAtOrAbove (spec.shown self.now).links word.now (numbered.word self.now.names.words.items number) → ⊥) }
+        ensures { spec.Tells result (chains.IsAtOrAbove (spec.shown self.now).links word.now (spec.word_at self.now number)) }
     {
         if word == self.names.words[number].bytes() {
             return true;
@@ -217,7 +277,7 @@ impl Tables {
     fn separates(&self, group: &NumberedGroup, first: &[u8], second: &[u8]) -> bool
         requires tables { spec.AreTables self.now }
         requires group { numbered.AreBelow (length self.now.names.words.items) group.now.words }
-        ensures { MatchBool result (disjoint.Separates (spec.shown self.now).links (numbered.named_group self.now.names.words.items group.now) first.now second.now) (disjoint.Separates (spec.shown self.now).links (numbered.named_group self.now.names.words.items group.now) first.now second.now → ⊥) }
+        ensures { spec.Tells result (disjoint.Separates (spec.shown self.now).links (numbered.named_group self.now.names.words.items group.now) first.now second.now) }
     {
         let words = group.words.items();
         let Some(one) = self.above(words, first, None) else {

@@ -2,14 +2,15 @@
 ghost use Rattle.std.specs.Prelude.{◌≡◌, ◌↔◌, IfOk, IsTrue, MatchOption};
 ghost use Rattle.taxonomy.specs.Chains.{Chain, parents};
 ghost use Rattle.taxonomy.specs.Disjoint.{AreDisjointBy, AreNotDisjoint};
+ghost use Rattle.taxonomy.specs.Names.{AreNumbered};
 ghost use Rattle.taxonomy.specs.Told.{told_taxonomy};
 
-use crate::closure::closure;
 use crate::names::Names;
 use crate::numbered::{numbered_groups, numbered_links};
-use crate::tables::{Tables, edges_of, rows_of};
+use crate::order::lowest_first;
+use crate::tables::{Tables, edges_of, tables_of};
 use crate::told::{ChainKind, Told};
-use kif_tree::{Located, Place};
+use kif_tree::{Located, Place, Text};
 use sigma_base::NoMemory;
 use std::alloc::Global;
 use std::marker::Model;
@@ -31,30 +32,44 @@ impl Model for Taxonomy {
     ghost invariant = { λ taxonomy. AreTables taxonomy.tables };
 }
 
+/// The words of the chains' links, each behind those below it where no cycle forbids it.
+fn ordered_names(alloc: Global, forms: &[Located]) -> Result<Names, NoMemory>
+    ensures { IfOk result (λ names. AreNumbered names.numbers names.words.items) }
+{
+    let mut names = Names::new(alloc);
+    let links = numbered_links(alloc, &mut names, forms)?;
+    let mut edges = edges_of(alloc, links.as_slice(), ChainKind::Class)?;
+    let relations = edges_of(alloc, links.as_slice(), ChainKind::Relation)?;
+    edges.extend_from_slice(relations.as_slice())?;
+    let order = lowest_first(alloc, names.words.len(), edges.as_slice())?;
+    names_in_order(alloc, names.words.as_slice(), order.as_slice())
+}
+
+/// The words of these numbers, numbered anew in this order.
+fn names_in_order(alloc: Global, words: &[Text], order: &[usize]) -> Result<Names, NoMemory>
+    ensures { IfOk result (λ names. AreNumbered names.numbers names.words.items) }
+{
+    let mut names = Names::new(alloc);
+    for number in order {
+        let Some(word) = words.get(*number) else {
+            continue;
+        };
+        names.add(alloc, word.bytes())?;
+    }
+    Ok(names)
+}
+
 impl Taxonomy {
     /// What the forms tell. A form tells something where it is a list of words that begins with `instance`, `subclass`, `subrelation`
     /// or `disjoint` and two more, or with `partition` or `disjointDecomposition`, one more, and two or more that are disjoint.
     pub fn of(alloc: Global, forms: &[Located]) -> Result<Taxonomy, NoMemory>
         ensures { IfOk result (λ taxonomy. taxonomy ≡ told_taxonomy forms.now) }
     {
-        let mut names = Names::new(alloc);
+        let mut names = ordered_names(alloc, forms)?;
         let links = numbered_links(alloc, &mut names, forms)?;
         let groups = numbered_groups(alloc, &mut names, forms)?;
-        let rows = rows_of(alloc, names.words.as_slice(), links.as_slice())?;
-        let subclasses = edges_of(alloc, links.as_slice(), ChainKind::Class)?;
-        let subrelations = edges_of(alloc, links.as_slice(), ChainKind::Relation)?;
-        let classes = closure(alloc, names.words.len(), subclasses.as_slice())?;
-        let relations = closure(alloc, names.words.len(), subrelations.as_slice())?;
-        Ok(Taxonomy {
-            tables: Tables {
-                names,
-                links,
-                groups,
-                rows,
-                classes,
-                relations,
-            },
-        })
+        let tables = tables_of(alloc, names, links, groups)?;
+        Ok(Taxonomy { tables })
     }
 
     /// Whether a chain of that kind leads from the first word to the second. It takes no memory.

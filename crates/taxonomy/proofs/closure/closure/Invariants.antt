@@ -1,4 +1,3 @@
-use Rattle.std.proofs.Common.{◌≡◌}
 use Rattle.taxonomy.specs.Graph as spec
 use Rattle.taxonomy.proofs.closure.closure.Given as goal
 

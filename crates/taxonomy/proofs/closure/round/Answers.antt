@@ -1,4 +1,3 @@
-use Rattle.std.proofs.Common.{get_or}
 use Rattle.taxonomy.specs.declared.closure.Edge.{Edge}
 use Rattle.taxonomy.proofs.GraphLaws.{round_more}
 use Rattle.taxonomy.proofs.closure.round.Goals as goal

@@ -1,4 +1,4 @@
-use Rattle.std.proofs.Common.{◌≡◌, ℕ, List, Bool, length, drop, sym, ap, subst, ◌∙◌, true, false}
+use Rattle.std.proofs.Common.{ℕ, List, length, drop, sym, ap, subst, ◌∙◌}
 use Rattle.std.specs.Str.{bytes_eq}
 use Rattle.kif_tree.specs.declared.form.Form.{Form}
 use Rattle.taxonomy.specs.Told.{parts_a_whole}

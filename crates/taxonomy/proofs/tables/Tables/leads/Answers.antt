@@ -1,6 +1,5 @@
 use Rattle.std.proofs.Common.{ℕ, List, subst}
 use Rattle.std.proofs.lemmas.List.{take_all}
-use Rattle.taxonomy.specs.declared.told.Told.{Told}
 use Rattle.taxonomy.specs.Chains.{later_kind}
 use Rattle.taxonomy.specs.Numbered.{word}
 use Rattle.taxonomy.specs.Tables.{shown, Passes}

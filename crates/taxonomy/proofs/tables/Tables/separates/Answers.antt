@@ -1,6 +1,6 @@
 use Rattle.std.proofs.Common.{ℕ, List, subst, sym}
 use Rattle.std.specs.Prelude.{Contains, Some, None}
-use Rattle.taxonomy.specs.Tables.{shown, AreDistinct}
+use Rattle.taxonomy.specs.Tables.{shown}
 use Rattle.taxonomy.proofs.ChainLaws.{NoneFoundIn, none_of_first, none_of_second, two_found, same_found, one_alone, distinct_words}
 use Rattle.taxonomy.proofs.tables.Tables.separates.Goals as goal
 
