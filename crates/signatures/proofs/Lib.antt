@@ -1,5 +1,4 @@
 pub mod LayerLaws
-pub mod StandinLaws
 pub mod SubjectLaws
 pub mod ArityLaws
 pub mod TypeLaws

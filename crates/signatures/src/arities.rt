@@ -10,14 +10,13 @@ ghost use Rattle.signatures.specs.Arities as spec;
 ghost use Rattle.signatures.specs.OwnArities as own;
 
 use crate::forms::{number_in, told_word};
-use crate::standin::Taxonomy;
 use crate::told::Arity;
 use crate::word_table::set;
 use kif_tree::Located;
 use sigma_base::NoMemory;
 use std::alloc::Global;
 use std::collections::BTreeMap;
-use taxonomy::ChainKind;
+use taxonomy::{ChainKind, Taxonomy};
 
 fn is_of_two(word: &[u8]) -> bool
     ensures { result ≡ shape.is_among spec.words_of_two word.now }

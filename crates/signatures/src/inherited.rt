@@ -8,7 +8,7 @@ ghost use Rattle.signatures.specs.Inherited as spec;
 
 use crate::forms::subject_of;
 use crate::nearest::nearest;
-use crate::standin::Taxonomy;
+use taxonomy::Taxonomy;
 use crate::word_table::set;
 use kif_tree::{Located, Text};
 use sigma_base::NoMemory;

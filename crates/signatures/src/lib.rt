@@ -6,7 +6,6 @@ mod forms;
 mod inherited;
 mod nearest;
 mod signatures;
-mod standin;
 mod told;
 mod types;
 mod word_table;

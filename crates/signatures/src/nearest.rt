@@ -7,12 +7,11 @@ ghost use Rattle.signatures.specs.Layers as spec;
 ghost use Rattle.signatures.specs.Nearest.{IsNearest, NoneReached};
 ghost use Rattle.kif_tree.specs.Shape as shape;
 
-use crate::standin::Taxonomy;
 use kif_tree::Text;
 use sigma_base::{Listed, NoMemory};
 use std::alloc::Global;
 use std::collections::BTreeMap;
-use taxonomy::{ChainKind, Told};
+use taxonomy::{ChainKind, Taxonomy, Told};
 
 /// Whether the word is one of these.
 pub fn is_among(words: &[Text], word: &[u8]) -> bool
