@@ -9,3 +9,5 @@ pub mod Inherited
 pub mod OwnArities
 pub mod TypeTables
 pub mod Tables
+pub mod ArgumentTables
+pub mod Marks

@@ -4,6 +4,7 @@
 mod arities;
 mod forms;
 mod inherited;
+mod names;
 mod nearest;
 mod signatures;
 mod told;
