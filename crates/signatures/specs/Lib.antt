@@ -11,3 +11,4 @@ pub mod TypeTables
 pub mod Tables
 pub mod ArgumentTables
 pub mod Marks
+pub mod Names

@@ -1,11 +1,13 @@
 -- Sets of words.
-use Rattle.std.specs.Prelude.{◌≡◌, List, Bool, ◌||◌, is_some}
-use Rattle.std.specs.BTreeMap.{BTreeMap}
+use Rattle.std.specs.Prelude.{◌≡◌, List, map, Bool, true, false, ◌||◌, is_some}
+use Rattle.std.specs.BTreeMap.{BTreeMap, keys}
 use Rattle.std.specs.Str.{bytes_eq}
 use Rattle.kif_tree.specs.Clauses.{begins_with}
 use Rattle.kif_tree.specs.Shape.{has_word}
 use Rattle.kif_tree.specs.Terms.{Bytes}
 use Rattle.kif_tree.specs.declared.form.Form.{Form}
+use Rattle.signatures.specs.declared.told.Arity.{Arity}
+use Rattle.signatures.specs.declared.told.Arity.TheVariants.{Exactly, Any, Unstated}
 use Rattle.signatures.specs.Relations.{heads}
 use Rattle.signatures.specs.WordTables.{Key, find}
 
@@ -30,3 +32,15 @@ begins parts word = begins_with word parts
 
 abbrev pub heads_in : Form → Bytes → Bool
 heads_in form word = heads word form
+
+-- the words are those that pass the test
+abbrev pub AreMarked : (Bytes → Bool) → Marks → Type 0
+AreMarked test marks = (word : Bytes) → has marks word ≡ test word
+
+abbrev pub key_words : Marks → List Bytes
+key_words marks = map (λ (key : Key). key.items) (keys marks)
+
+abbrev pub is_stated : Arity → Bool
+is_stated (Exactly number) = true
+is_stated Any = true
+is_stated Unstated = false

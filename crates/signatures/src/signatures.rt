@@ -1,14 +1,15 @@
 //! The tables of a list of forms.
 ghost use Rattle.std.specs.Prelude.{◌≡◌, IfOk, OnOk};
-ghost use Rattle.taxonomy.specs.Told.{links};
+ghost use Rattle.taxonomy.specs.Told.{links, told_taxonomy};
 ghost use Rattle.signatures.specs.ArgumentTables as tables;
 ghost use Rattle.signatures.specs.Tables as spec;
 
+use crate::arities::own_arities;
 use crate::forms::argument_in;
 use crate::inherited::{Inherited, inherit};
-use crate::names::arity_in;
+use crate::names::{arity_in, heads, names_among, snapshot_words};
 use crate::told::{Arity, TypeTold};
-use crate::types::own_types;
+use crate::types::{own_types, ranges};
 use kif_tree::{Located, Text};
 use sigma_base::{Listed, NoMemory};
 use std::alloc::Global;
@@ -91,6 +92,26 @@ fn types_among<'a>(entries: &'a [ArgumentTypes], word: &[u8], number: u32) -> &'
 }
 
 impl Signatures {
+    /// What the forms tell, with the taxonomy that was made of them.
+    pub fn of(alloc: Global, forms: &[Located], taxonomy: &Taxonomy) -> Result<Signatures, NoMemory>
+        requires { taxonomy.now ≡ told_taxonomy forms.now }
+        ensures { IfOk result (spec.AreSignatures forms.now) }
+    {
+        let own = own_arities(alloc, forms, taxonomy)?;
+        let arities = inherit(alloc, forms, taxonomy, own)?;
+        let types = argument_types(alloc, forms, taxonomy)?;
+        let ranges = ranges(alloc, forms)?;
+        let words = snapshot_words(alloc, forms)?;
+        let heads = heads(alloc, forms)?;
+        let relations = names_among(alloc, words, &heads, &arities)?;
+        Ok(Signatures {
+            arities,
+            types,
+            ranges,
+            relations,
+        })
+    }
+
     /// How many arguments the word takes. It takes no memory.
     pub fn arity(&self, relation: &[u8]) -> Arity
         ensures { result ≡ spec.arity_in self.now relation.now }
