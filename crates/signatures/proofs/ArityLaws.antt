@@ -84,7 +84,7 @@ by_class_one ls word (entry ∷ classes) a b (inr h) (inl k) = absurd (h.0 k.0)
 by_class_one ls word (entry ∷ classes) a b (inr h) (inr k) = by_class_one ls word classes a b h.1 k.1
 
 -- a word has one own arity at most
-own_one : (forms : List Located) (word : Bytes) (a b : Option Arity) → IsOwnArity forms word a → IsOwnArity forms word b → a ≡ b
+pub own_one : (forms : List Located) (word : Bytes) (a b : Option Arity) → IsOwnArity forms word a → IsOwnArity forms word b → a ≡ b
 own_one forms word a b =
     or_else_one (built_in word) (OrElse (told_valence forms word) (IsByClass (links forms) word arity_classes)) a b
     (or_else_one (told_valence forms word) (IsByClass (links forms) word arity_classes) a b (by_class_one (links forms) word arity_classes a b))

@@ -157,8 +157,8 @@ fn is_name(heads: &Marks, arities: &Inherited<Arity>, word: &[u8]) -> bool
 
 /// The relation names among the words, in their order.
 pub fn names_among(alloc: Global, words: Marks, heads: &Marks, arities: &Inherited<Arity>) -> Result<Vec<Text>, NoMemory>
-    ensures names { IfOk result (λ found. found.items ≡ filter (names.is_name heads.now arities.now) (spec.key_words words.entry)) }
-    ensures ascending { IfOk result (λ _. relations.AreAscending (spec.key_words words.entry)) }
+    ensures names { IfOk result (λ found. found.items ≡ filter (names.is_name heads.now arities.now) (spec.key_words words)) }
+    ensures ascending { IfOk result (λ _. relations.AreAscending (spec.key_words words)) }
 {
     let mut words = words;
     let mut found = Vec::with_capacity(alloc, words.len())?;
