@@ -49,7 +49,7 @@ pub tables_more : (forms : List Located) (i : ℕ) (located : Located) (old new 
 tables_more forms i located old new lt is tables adds = record {
   right = adds.right tables.right;
   all =
-    each_take_more (IsThere new) forms i located lt (each_map (IsThere old) (IsThere new) (λ l h told e. adds.kept told.number (h told e)) (take i forms) tables.all) (subst (IsThere new) is adds.here);
+      each_take_more (IsThere new) forms i located lt (each_map (IsThere old) (IsThere new) (λ l h told e. adds.kept told.number (h told e)) (take i forms) tables.all) (subst (IsThere new) is adds.here);
 }
 
 none_told : (forms : List Located) (word : Bytes) (number : ℕ) → Each (λ (located : Located). (told : ToldArgument) → told_argument located ≡ Some told → nat_eq told.number number ≡ false) forms → own_types forms word number ≡ []
@@ -59,6 +59,7 @@ none_told (located ∷ forms) word number h = go (told_argument located) refl (n
     nothing : (b : Bool) (t : Option TypeTold) → (if b && false then t else None) ≡ None
     nothing true t = refl
     nothing false t = refl
+
     go : (o : Option ToldArgument) → told_argument located ≡ o → own_types forms word number ≡ [] → filter_map (type_in word number) (cons_option o (arguments forms)) ≡ []
     go None e ih = ih
     go (Some told) e ih =
@@ -81,6 +82,7 @@ types_by forms entries tables word number = go (has_number number entries) refl
             → AreTypes forms word number (if b then unwrap_or (value_in e.types word) [] else types_at es word number)
         case true is h more = subst (λ n. AreTypes forms word n (unwrap_or (value_in e.types word) [])) (equal e.number number is) (are_types forms e.number e.types each.0.0 each.0.1 word)
         case false is h more = more h
+
     go : (b : Bool) → has_number number entries ≡ b → AreTypes forms word number (types_at entries word number)
     go true h = right entries tables.right h
     go false h = subst (AreTypes forms word number) (none_at entries word number h) (inr (none word, inr (record { none = λ other has chain. has (none other); is = refl })))
@@ -91,5 +93,6 @@ types_by forms entries tables word number = go (has_number number entries) refl
             not_so : (b : Bool) → (b ≡ true → ⊥) → b ≡ false
             not_so true f = absurd (f refl)
             not_so false f = refl
+
         none : (w : Bytes) → own_types forms w number ≡ []
         none w = none_told forms w number (each_map (IsThere entries) (λ (located : Located). (told : ToldArgument) → told_argument located ≡ Some told → nat_eq told.number number ≡ false) apart forms tables.all)

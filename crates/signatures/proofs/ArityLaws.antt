@@ -121,11 +121,13 @@ valence_among (located ∷ forms) word arity e = go (told_number located) refl e
     here told is b e h =
         subst (λ (o : Option Bytes). Among (cons_option o (filter_map subject forms)) word) (sym (number_subject_of located.place (parts_of located.form) told is))
         (among_here (filter_map subject forms) word told.word (sym ((bytes_eq-Decides told.word word).0 (both (bytes_eq told.head (codes "valence")) (bytes_eq told.word word) (e ∙ h)).1)))
+
     by_test : (told : ToldNumber) → told_number located ≡ Some told → (b : Bool) → (bytes_eq told.head (codes "valence") && bytes_eq told.word word) ≡ b
         → first_of (cons_option (if b then Some (Exactly told.number) else None) (filter_map (valence_in word) (numbers forms))) ≡ Some arity
         → (told_valence forms word ≡ Some arity → Among (filter_map subject forms) word) → Among (filter_map subject (located ∷ forms)) word
     by_test told is true e k more = here told is true e refl
     by_test told is false e k more = kept_among (subject located) (filter_map subject forms) word (more k)
+
     go : (o : Option ToldNumber) → told_number located ≡ o → first_of (filter_map (valence_in word) (cons_option o (numbers forms))) ≡ Some arity → (told_valence forms word ≡ Some arity → Among (filter_map subject forms) word)
         → Among (filter_map subject (located ∷ forms)) word
     go None is k more = kept_among (subject located) (filter_map subject forms) word (more k)
@@ -140,6 +142,7 @@ untold forms word no_word out = own_by_class forms (links forms) word None refl 
   where
     outside : Among (filter_map subject forms) word → ⊥
     outside h = let no_way : true ≡ false = sym h ∙ out in absurd (cc)
+
     by_valence : (o : Option Arity) → told_valence forms word ≡ o → None ≡ o
     by_valence None e = refl
     by_valence (Some arity) e = absurd (outside (valence_among forms word arity e))
@@ -167,25 +170,30 @@ is_arity forms table own inherits word = by_word (built_in word) refl
         go (Some arity) e = (arity, e)
         go None e =
             let none : IsOwnArity forms w None =
-                each_among (λ x. find table.own x ≡ None → NeedsNone forms x) (filter_map subject forms ++ filter_map object forms) w own.all (among_right (filter_map subject forms) (filter_map object forms) w (reached_among forms word w chain)) e in
+            each_among (λ x. find table.own x ≡ None → NeedsNone forms x) (filter_map subject forms ++ filter_map object forms) w own.all (among_right (filter_map subject forms) (filter_map object forms) w (reached_among forms word w chain)) e in
             let no_way : Some has.0 ≡ None = own_one forms w (Some has.0) None has.1 none in
             absurd (cc)
+
     own_has : (w : Bytes) → Has table.own w → HasOwnArity forms w
     own_has w has = (has.0, own.right w has.0 has.1)
+
     none_of : None ≡ built_in word → find table.own word ≡ None → IsOwnArity forms word None
     none_of no_word e = go (is_among (filter_map subject forms) word) refl
       where
         go : (b : Bool) → is_among (filter_map subject forms) word ≡ b → IsOwnArity forms word None
         go true h = each_among (λ x. find table.own x ≡ None → NeedsNone forms x) (filter_map subject forms ++ filter_map object forms) word own.all (among_left (filter_map subject forms) (filter_map object forms) word h) e
         go false h = untold forms word no_word h
+
     inherited : (o : Option Bytes) → MatchOption o (NoneReached (links forms) (Has table.own) word) (IsNearest (links forms) (Has table.own) word)
         → IsInheritedArity forms word (unwrap_or (find_near table.own o) Unstated) ⊎ IsUnstated forms word (unwrap_or (find_near table.own o) Unstated)
     inherited (Some near) n = inl (subst (λ (o : Option Arity). IsInheritedArity forms word (unwrap_or o Unstated)) (sym n.has.1)
         (record { near = near; nearest = nearest_as (links forms) (Has table.own) (HasOwnArity forms) word near n has_own (own_has near); own = own.right near n.has.0 n.has.1 }))
     inherited None n = inr (record { none = λ other has chain. n other (has_own other chain has) chain; unstated = refl })
+
     by_own : None ≡ built_in word → (o : Option Arity) → find table.own word ≡ o → IsArity forms word (unwrap_or (first_found o (find_near table.own (find table.nearest word))) Unstated)
     by_own no_word (Some arity) e = inl (own.right word arity e)
     by_own no_word None e = inr (none_of no_word e, inherited (find table.nearest word) (inherits word e))
+
     by_word : (o : Option Arity) → built_in word ≡ o → IsArity forms word (unwrap_or (first_found o (value_in table word)) Unstated)
     by_word (Some arity) e = inl (or_else_some (built_in word) (OrElse (told_valence forms word) (IsByClass (links forms) word arity_classes)) arity (sym e))
     by_word None e = by_own (sym e) (find table.own word) refl

@@ -97,6 +97,7 @@ no_pair located parts e h = go (word_texts parts) refl
   where
     back : (o : Option (List Bytes)) → word_texts parts ≡ o → pair_of_words located.place o ≡ told_pair located
     back o is = ap (pair_of_words located.place) (sym is ∙ ap word_texts e)
+
     go : (o : Option (List Bytes)) → word_texts parts ≡ o → None ≡ told_pair located
     go None is = back None is
     go (Some texts) is = no_pair_of_texts located.place texts (λ three. h (sym (texts_length parts texts is) ∙ three)) ∙ back (Some texts) is

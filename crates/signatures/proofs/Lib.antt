@@ -1,6 +1,7 @@
 pub mod LayerLaws
 pub mod SubjectLaws
 pub mod ArityLaws
+pub mod TableLaws
 pub mod NameLaws
 pub mod MarkLaws
 pub mod ArgumentLaws

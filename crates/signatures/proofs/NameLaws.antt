@@ -42,6 +42,7 @@ nearest_one ls Has word a b n m = go (n.first b m.has (subst (IsDistance ls kind
   where
     same : n.distance ≡ m.distance
     same = let le : n.distance ≤ m.distance = n.no_nearer b m.distance m.has m.reached in let ge : m.distance ≤ n.distance = m.no_nearer a n.distance n.has n.reached in omega (arith, le, ge)
+
     go : ((a ≡ b) ⊎ IsBefore a b) → ((b ≡ a) ⊎ IsBefore b a) → a ≡ b
     go (inl e) k = e
     go (inr h) (inl e) = sym e
@@ -162,18 +163,21 @@ relation_names forms words heads arities found in_words in_heads arity rising is
     tested word =
         ap (λ (ws : List Bytes). is_among ws word) is ∙ among_filter (is_name heads arities) (key_words words) word
         ∙ ap (λ b. b && is_name heads arities word) (sym (among_keys words.entries word) ∙ in_words word)
+
     used : (word : Bytes) → (has heads word || is_stated (arity_by arities word)) ≡ true → (heads_a_list forms word ≡ true) ⊎ HasStatedArity forms word
     used word h = go (has heads word) refl h
       where
         go : (b : Bool) → has heads word ≡ b → (b || is_stated (arity_by arities word)) ≡ true → (heads_a_list forms word ≡ true) ⊎ HasStatedArity forms word
         go true e h = inl (sym (in_heads word) ∙ e)
         go false e h = inr (arity_by arities word, arity word, stated (arity_by arities word) h)
+
     named : (word : Bytes) → (is_snapshot_word forms word && is_name heads arities word) ≡ true → IsRelationName forms word
     named word h =
         let one = both (is_snapshot_word forms word) (is_name heads arities word) h in
         let two = both (not (is_among logical_words word)) (not (is_among shown_heads word) && (has heads word || is_stated (arity_by arities word))) one.1 in
         let three = both (not (is_among shown_heads word)) (has heads word || is_stated (arity_by arities word)) two.1 in
         record { occurs = one.0; not_logical = denied (is_among logical_words word) two.0; not_shown_head = denied (is_among shown_heads word) three.0; used = used word three.1 }
+
     test : (word : Bytes) → IsRelationName forms word → (is_snapshot_word forms word && is_name heads arities word) ≡ true
     test word name =
         join (is_snapshot_word forms word) (is_name heads arities word) name.occurs
@@ -183,6 +187,7 @@ relation_names forms words heads arities found in_words in_heads arity rising is
         or_true : (b : Bool) → (b || true) ≡ true
         or_true true = refl
         or_true false = refl
+
         by_use : ((heads_a_list forms word ≡ true) ⊎ HasStatedArity forms word) → (has heads word || is_stated (arity_by arities word)) ≡ true
         by_use (inl e) = ap (λ b. b || is_stated (arity_by arities word)) (in_heads word ∙ e)
         by_use (inr s) = ap (λ b. has heads word || b) (is_stated_by (arity_by arities word) (λ e. s.2 (arity_one forms word s.0 (arity_by arities word) s.1 (arity word) ∙ e))) ∙ or_true (has heads word)

@@ -56,7 +56,7 @@ pub gone_more : {V : Type 0} (f : Located → Option Bytes) (R : Bytes → V →
     → located ≡ get_or forms i located → f located ≡ Some word → text ≡ word → IsTableOf R N (before ++ filter_map f (take i forms)) old → IsGoneThrough R N old new text → IsTableOf R N (before ++ filter_map f (take (i + 1) forms)) new
 gone_more f R N before forms i located old new word text lt is some same h gone =
     let more : before ++ filter_map f (take (i + 1) forms) ≡ (before ++ filter_map f (take i forms)) ++ word ∷ [] =
-        ap (λ (ws : List Bytes). before ++ ws) (words_one_more f forms i located word lt is some) ∙ append_assoc before (filter_map f (take i forms)) (word ∷ []) in
+    ap (λ (ws : List Bytes). before ++ ws) (words_one_more f forms i located word lt is some) ∙ append_assoc before (filter_map f (take i forms)) (word ∷ []) in
     subst (λ (ws : List Bytes). IsTableOf R N ws new) (sym more) (table_of_more R N (before ++ filter_map f (take i forms)) old new word h (subst (IsGoneThrough R N old new) same gone))
 
 -- ---- what tells something of a word has it as its subject
@@ -86,6 +86,7 @@ link_subject located link e = go (word_texts (parts_of located.form)) refl e
     by_kind : (a b c : Bytes) (k : Option ChainKind) → link_of_kind b c located.place k ≡ Some link → b ≡ link.low
     by_kind a b c (Some k) e = cc
     by_kind a b c None e = absurd (cc)
+
     go : (o : Option (List Bytes)) → word_texts (parts_of located.form) ≡ o → link_of_words located.place o ≡ Some link → subject located ≡ Some link.low
     go (Some (a ∷ b ∷ c ∷ [])) is e = second_of_texts (parts_of located.form) a b (c ∷ []) is ∙ ap (λ w. Some w) (by_kind a b c (kind_of a) e)
     go (Some []) is e = absurd (cc)
@@ -102,12 +103,14 @@ link_among (located ∷ forms) link h = go (told_link located) refl h (link_amon
     here first told is =
         subst (λ (o : Option Bytes). Among (cons_option o (filter_map subject forms)) link.low) (sym (link_subject located first told))
         (among_here (filter_map subject forms) link.low first.low (ap (λ (l : Link). l.low) (sym is)))
+
     later : Among (filter_map subject forms) link.low → Among (filter_map subject (located ∷ forms)) link.low
     later h = kept (subject located)
       where
         kept : (o : Option Bytes) → Among (cons_option o (filter_map subject forms)) link.low
         kept None = h
         kept (Some word) = among_later (filter_map subject forms) link.low word h
+
     go : (o : Option Link) → told_link located ≡ o → Contains (cons_option o (links forms)) link → (Contains (links forms) link → Among (filter_map subject forms) link.low) → Among (filter_map subject (located ∷ forms)) link.low
     go None told h more = later (more h)
     go (Some first) told (zero, lt, is) more = here first told is
@@ -136,6 +139,7 @@ inherits_by {V = V} forms told table same noted = λ word none. go word none (fi
   where
     notes : AreNoted (links forms) table.own (filter_map subject forms) table.nearest
     notes = subst (λ (ls : List Link). AreNoted ls table.own (filter_map subject forms) table.nearest) same noted
+
     go : (word : Bytes) → find table.own word ≡ None → (o : Option Bytes) → find table.nearest word ≡ o → MatchOption o (NoneReached (links forms) (Has table.own) word) (IsNearest (links forms) (Has table.own) word)
     go word none (Some near) e = notes.right word near e
     go word none None e = λ other has chain.
@@ -164,6 +168,7 @@ link_object located link e = go (word_texts (parts_of located.form)) refl e
     by_kind : (a b c : Bytes) (k : Option ChainKind) → link_of_kind b c located.place k ≡ Some link → c ≡ link.high
     by_kind a b c (Some k) e = cc
     by_kind a b c None e = absurd (cc)
+
     go : (o : Option (List Bytes)) → word_texts (parts_of located.form) ≡ o → link_of_words located.place o ≡ Some link → object located ≡ Some link.high
     go (Some (a ∷ b ∷ c ∷ [])) is e = third_of_texts (parts_of located.form) a b c [] is ∙ ap (λ w. Some w) (by_kind a b c (kind_of a) e)
     go (Some []) is e = absurd (cc)
@@ -180,12 +185,14 @@ high_among (located ∷ forms) link h = go (told_link located) refl h (high_amon
     here first told is =
         subst (λ (o : Option Bytes). Among (cons_option o (filter_map object forms)) link.high) (sym (link_object located first told))
         (among_here (filter_map object forms) link.high first.high (ap (λ (l : Link). l.high) (sym is)))
+
     later : Among (filter_map object forms) link.high → Among (filter_map object (located ∷ forms)) link.high
     later h = kept (object located)
       where
         kept : (o : Option Bytes) → Among (cons_option o (filter_map object forms)) link.high
         kept None = h
         kept (Some word) = among_later (filter_map object forms) link.high word h
+
     go : (o : Option Link) → told_link located ≡ o → Contains (cons_option o (links forms)) link → (Contains (links forms) link → Among (filter_map object forms) link.high) → Among (filter_map object (located ∷ forms)) link.high
     go None told h more = later (more h)
     go (Some first) told (zero, lt, is) more = here first told is
@@ -201,6 +208,7 @@ reached_among forms low high c = go (length c.chain) (walk_of (links forms) low 
         empty : (chain : List Link) → IsChain kinds.Relation chain → length chain ≡ 0 → ⊥
         empty [] is e = is
         empty (link ∷ chain) is e = absurd (omega (arith, e))
+
     go : (n : ℕ) → Walk (links forms) low n high → (n ≡ 0 → ⊥) → Among (filter_map object forms) high
     go zero walk some = absurd (some refl)
     go (suc n) walk some = subst (Among (filter_map object forms)) walk.to (high_among forms walk.link walk.told)

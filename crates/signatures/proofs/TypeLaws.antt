@@ -68,6 +68,7 @@ adds_one old mid new found word list longer told same is taken more told_is set 
   where
     one : (other : Bytes) (b : Bool) → bytes_eq found.word.now other ≡ b → found_for other (Some found) ≡ (if b then Some told else None)
     one other b h = ap (λ (d : Bool). if d then Some (record { subclass = found.subclass; class = found.class.now; place = found.place }) else None) h ∙ ap (λ (t : TypeTold). if b then Some t else None) (sym told_is)
+
     go : (other : Bytes) (types : List TypeTold) → find old other ≡ as_found types → (b : Bool) → bytes_eq other word ≡ b → (if b then Some longer else find mid other) ≡ as_found (types ++ cons_option (found_for other (Some found)) [])
     go other types e true h =
         let equal : other ≡ word = (bytes_eq-Decides other word).0 h in
@@ -144,10 +145,13 @@ are_types forms number table own inherits word = by_own (find table.own word) re
   where
     own_is : (w : Bytes) → find table.own w ≡ as_found (own_types forms w number)
     own_is w = own w ∙ ap as_found (types_are forms number w)
+
     back : (w : Bytes) → Chain (links forms) kinds.Relation word w → HasTypes forms number w → Has table.own w
     back w chain has = (own_types forms w number, own_is w ∙ found_some (own_types forms w number) has)
+
     forth : (w : Bytes) → Has table.own w → HasTypes forms number w
     forth w has = (as_found_some (own_types forms w number) has.0 (sym (own_is w) ∙ has.1)).0
+
     inherited : (o : Option Bytes) → MatchOption o (NoneReached (links forms) (Has table.own) word) (IsNearest (links forms) (Has table.own) word)
         → AreInherited forms word number (unwrap_or (find_near table.own o) []) ⊎ AreNone forms word number (unwrap_or (find_near table.own o) [])
     inherited (Some near) n = inl (record {
@@ -156,6 +160,7 @@ are_types forms number table own inherits word = by_own (find table.own word) re
       own = ap (λ (o : Option (List TypeTold)). unwrap_or o []) (own_is near) ∙ found_list (own_types forms near number);
     })
     inherited None n = inr (record { none = λ other has chain. n other (back other chain has) chain; is = refl })
+
     by_own : (o : Option (List TypeTold)) → find table.own word ≡ o → AreTypes forms word number (unwrap_or (first_found o (find_near table.own (find table.nearest word))) [])
     by_own (Some types) e = inl (as_found_some (own_types forms word number) types (sym (own_is word) ∙ e))
     by_own None e = inr (as_found_none (own_types forms word number) (sym (own_is word) ∙ e), inherited (find table.nearest word) (inherits word e))

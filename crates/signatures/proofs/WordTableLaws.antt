@@ -69,8 +69,8 @@ module _ {V : Type 0} (IsRight : Bytes → V → Type 0) (NeedsNone : Bytes → 
   table_of_more words old new word table gone = record {
     right = λ other value e. go other value (gone.right other value e);
     all =
-      each_append (λ other. find new other ≡ None → NeedsNone other) words (word ∷ [])
-      (each_map (λ other. find old other ≡ None → NeedsNone other) (λ other. find new other ≡ None → NeedsNone other) (λ other h e. h (gone.kept other e)) words table.all) (gone.here, tt);
+        each_append (λ other. find new other ≡ None → NeedsNone other) words (word ∷ [])
+        (each_map (λ other. find old other ≡ None → NeedsNone other) (λ other. find new other ≡ None → NeedsNone other) (λ other h e. h (gone.kept other e)) words table.all) (gone.here, tt);
   }
     where
       go : (other : Bytes) (value : V) → ((find old other ≡ Some value) ⊎ IsRight other value) → IsRight other value
@@ -97,6 +97,7 @@ module _ {V : Type 0} (IsRight : Bytes → V → Type 0) (NeedsNone : Bytes → 
       case : (other : Bytes) (v : V) (b : Bool) → bytes_eq other word ≡ b → (if b then Some value else find old other) ≡ Some v → (find old other ≡ Some v) ⊎ IsRight other v
       case other v true is e = let same : value ≡ v = cc in inr (subst (λ (w : Bytes). IsRight w v) (sym ((bytes_eq-Decides other word).0 is)) (subst (IsRight word) same right))
       case other v false is e = inl e
+
       drop_set : (other : Bytes) (b : Bool) → (if b then Some value else find old other) ≡ None → find old other ≡ None
       drop_set other true e = absurd (cc)
       drop_set other false e = e

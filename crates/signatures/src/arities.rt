@@ -21,8 +21,14 @@ use taxonomy::{ChainKind, Taxonomy};
 fn is_of_two(word: &[u8]) -> bool
     ensures { result ≡ shape.is_among spec.words_of_two word.now }
 {
-    word == b"equal".as_slice() || word == b"instance".as_slice() || word == b"subclass".as_slice() || word == b"subrelation".as_slice()
-        || word == b"disjoint".as_slice() || word == b"range".as_slice() || word == b"rangeSubclass".as_slice() || word == b"valence".as_slice()
+    word == b"equal".as_slice()
+        || word == b"instance".as_slice()
+        || word == b"subclass".as_slice()
+        || word == b"subrelation".as_slice()
+        || word == b"disjoint".as_slice()
+        || word == b"range".as_slice()
+        || word == b"rangeSubclass".as_slice()
+        || word == b"valence".as_slice()
 }
 
 fn is_of_three(word: &[u8]) -> bool
@@ -35,13 +41,18 @@ fn is_of_three(word: &[u8]) -> bool
 pub fn is_shown_head(word: &[u8]) -> bool
     ensures { result ≡ shape.is_among spec.shown_heads word.now }
 {
-    word == b"documentation".as_slice() || word == b"termFormat".as_slice() || word == b"format".as_slice()
+    word == b"documentation".as_slice()
+        || word == b"termFormat".as_slice()
+        || word == b"format".as_slice()
 }
 
 fn is_of_any(word: &[u8]) -> bool
     ensures { result ≡ shape.is_among spec.words_of_any word.now }
 {
-    word == b"partition".as_slice() || word == b"disjointDecomposition".as_slice() || word == b"exhaustiveDecomposition".as_slice() || is_shown_head(word)
+    word == b"partition".as_slice()
+        || word == b"disjointDecomposition".as_slice()
+        || word == b"exhaustiveDecomposition".as_slice()
+        || is_shown_head(word)
 }
 
 /// The arity of a built-in word.
@@ -61,7 +72,13 @@ pub fn built_in(word: &[u8]) -> Option<Arity>
 }
 
 /// Whether an instance chain leads from the word to the class; where it does, the arity, and else what comes of the rest.
-fn or_by(taxonomy: &Taxonomy, word: &[u8], class: &[u8], arity: Arity, rest: Option<Arity>) -> Option<Arity>
+fn or_by(
+    taxonomy: &Taxonomy,
+    word: &[u8],
+    class: &[u8],
+    arity: Arity,
+    rest: Option<Arity>,
+) -> Option<Arity>
     ensures { (classes : List spec.ClassArity) → spec.IsByClass taxonomy.now.links word.now classes rest → spec.IsByClass taxonomy.now.links word.now (spec.gives class.now arity ∷ classes) result }
 {
     if taxonomy.is_above(ChainKind::Instance, word, class) {
@@ -74,7 +91,13 @@ fn or_by(taxonomy: &Taxonomy, word: &[u8], class: &[u8], arity: Arity, rest: Opt
 fn or_by_function(taxonomy: &Taxonomy, word: &[u8], rest: Option<Arity>) -> Option<Arity>
     ensures { (classes : List spec.ClassArity) → spec.IsByClass taxonomy.now.links word.now classes rest → spec.IsByClass taxonomy.now.links word.now (spec.function_classes ++ classes) result }
 {
-    let rest = or_by(taxonomy, word, b"QuaternaryFunction", Arity::Exactly(4), rest);
+    let rest = or_by(
+        taxonomy,
+        word,
+        b"QuaternaryFunction",
+        Arity::Exactly(4),
+        rest,
+    );
     let rest = or_by(taxonomy, word, b"TernaryFunction", Arity::Exactly(3), rest);
     let rest = or_by(taxonomy, word, b"BinaryFunction", Arity::Exactly(2), rest);
     or_by(taxonomy, word, b"UnaryFunction", Arity::Exactly(1), rest)
@@ -85,9 +108,27 @@ fn or_by_relation(taxonomy: &Taxonomy, word: &[u8], rest: Option<Arity>) -> Opti
     ensures { (classes : List spec.ClassArity) → spec.IsByClass taxonomy.now.links word.now classes rest → spec.IsByClass taxonomy.now.links word.now (spec.relation_classes ++ classes) result }
 {
     let rest = or_by(taxonomy, word, b"QuintaryRelation", Arity::Exactly(5), rest);
-    let rest = or_by(taxonomy, word, b"QuintaryPredicate", Arity::Exactly(5), rest);
-    let rest = or_by(taxonomy, word, b"QuaternaryRelation", Arity::Exactly(4), rest);
-    let rest = or_by(taxonomy, word, b"QuaternaryPredicate", Arity::Exactly(4), rest);
+    let rest = or_by(
+        taxonomy,
+        word,
+        b"QuintaryPredicate",
+        Arity::Exactly(5),
+        rest,
+    );
+    let rest = or_by(
+        taxonomy,
+        word,
+        b"QuaternaryRelation",
+        Arity::Exactly(4),
+        rest,
+    );
+    let rest = or_by(
+        taxonomy,
+        word,
+        b"QuaternaryPredicate",
+        Arity::Exactly(4),
+        rest,
+    );
     let rest = or_by(taxonomy, word, b"TernaryRelation", Arity::Exactly(3), rest);
     let rest = or_by(taxonomy, word, b"TernaryPredicate", Arity::Exactly(3), rest);
     let rest = or_by(taxonomy, word, b"BinaryRelation", Arity::Exactly(2), rest);
@@ -104,7 +145,11 @@ fn by_class(taxonomy: &Taxonomy, word: &[u8]) -> Option<Arity>
 }
 
 /// Gives the word that the form tells a valence of its arity, where it has none yet.
-fn add_valence(alloc: Global, table: &mut BTreeMap<Vec<u8>, Arity>, located: &Located) -> Result<(), NoMemory>
+fn add_valence(
+    alloc: Global,
+    table: &mut BTreeMap<Vec<u8>, Arity>,
+    located: &Located,
+) -> Result<(), NoMemory>
     ensures { OnOk result (own.AddsValence table.old table.new located.now) }
 {
     let Some(found) = number_in(located) else {
@@ -116,7 +161,12 @@ fn add_valence(alloc: Global, table: &mut BTreeMap<Vec<u8>, Arity>, located: &Lo
     if table.contains_key(found.word.bytes()) {
         return Ok(());
     }
-    set(alloc, table, found.word.bytes(), Arity::Exactly(found.number))
+    set(
+        alloc,
+        table,
+        found.word.bytes(),
+        Arity::Exactly(found.number),
+    )
 }
 
 /// For each word its first told valence.
@@ -144,7 +194,13 @@ fn own_arity(valences: &BTreeMap<Vec<u8>, Arity>, taxonomy: &Taxonomy, word: &[u
 }
 
 /// Gives the word its own arity, if it has one.
-fn add_own(alloc: Global, valences: &BTreeMap<Vec<u8>, Arity>, taxonomy: &Taxonomy, table: &mut BTreeMap<Vec<u8>, Arity>, word: &[u8]) -> Result<(), NoMemory>
+fn add_own(
+    alloc: Global,
+    valences: &BTreeMap<Vec<u8>, Arity>,
+    taxonomy: &Taxonomy,
+    table: &mut BTreeMap<Vec<u8>, Arity>,
+    word: &[u8],
+) -> Result<(), NoMemory>
     ensures { OnOk result ((forms : List Located) → own.AreValences forms valences.now → taxonomy.now.links ≡ links forms → own.IsOwnGone forms table.old table.new word.now) }
 {
     if table.contains_key(word) {
@@ -158,7 +214,14 @@ fn add_own(alloc: Global, valences: &BTreeMap<Vec<u8>, Arity>, taxonomy: &Taxono
 }
 
 /// Gives the second words of the forms, or the third ones, their own arities.
-fn add_all(alloc: Global, forms: &[Located], is_second: bool, valences: &BTreeMap<Vec<u8>, Arity>, taxonomy: &Taxonomy, table: &mut BTreeMap<Vec<u8>, Arity>) -> Result<(), NoMemory>
+fn add_all(
+    alloc: Global,
+    forms: &[Located],
+    is_second: bool,
+    valences: &BTreeMap<Vec<u8>, Arity>,
+    taxonomy: &Taxonomy,
+    table: &mut BTreeMap<Vec<u8>, Arity>,
+) -> Result<(), NoMemory>
     requires valences { own.AreValences forms.now valences.now }
     requires told { taxonomy.now.links ≡ links forms.now }
     ensures { OnOk result ((before : List Bytes) → own.AreOwn forms.now before table.old → own.AreOwn forms.now (before ++ filter_map (found.told_word is_second) forms.now) table.new) }
@@ -173,7 +236,11 @@ fn add_all(alloc: Global, forms: &[Located], is_second: bool, valences: &BTreeMa
 }
 
 /// The own arities of the words in told forms.
-pub fn own_arities(alloc: Global, forms: &[Located], taxonomy: &Taxonomy) -> Result<BTreeMap<Vec<u8>, Arity>, NoMemory>
+pub fn own_arities(
+    alloc: Global,
+    forms: &[Located],
+    taxonomy: &Taxonomy,
+) -> Result<BTreeMap<Vec<u8>, Arity>, NoMemory>
     requires { taxonomy.now.links ≡ links forms.now }
     ensures { IfOk result (λ table. own.AreOwn forms.now (filter_map (found.told_word true) forms.now ++ filter_map (found.told_word false) forms.now) table) }
 {

@@ -137,7 +137,12 @@ pub fn told_word(located: &Located, is_second: bool) -> Option<&Text>
     object_of(located)
 }
 
-fn pair_of<'a>(head: Option<&'a Text>, first: Option<&'a Text>, second: Option<&'a Text>, place: Place) -> Option<FoundPair<'a>>
+fn pair_of<'a>(
+    head: Option<&'a Text>,
+    first: Option<&'a Text>,
+    second: Option<&'a Text>,
+    place: Place,
+) -> Option<FoundPair<'a>>
     ensures { option_map spec.found_pair result ≡ told.pair_of_words place (spec.three_texts (spec.text_in head.entry) (spec.text_in first.entry) (spec.text_in second.entry)) }
 {
     match (head, first, second) {
@@ -162,10 +167,20 @@ pub fn pair_in(located: &Located) -> Option<FoundPair<'_>>
     let [head, first, second] = parts else {
         return None;
     };
-    pair_of(word_of(head), word_of(first), word_of(second), located.place)
+    pair_of(
+        word_of(head),
+        word_of(first),
+        word_of(second),
+        located.place,
+    )
 }
 
-fn number_of<'a>(head: Option<&'a Text>, word: Option<&'a Text>, number: Option<u32>, place: Place) -> Option<FoundNumber<'a>>
+fn number_of<'a>(
+    head: Option<&'a Text>,
+    word: Option<&'a Text>,
+    number: Option<u32>,
+    place: Place,
+) -> Option<FoundNumber<'a>>
     ensures { option_map spec.found_number result ≡ told.number_of place (spec.two_texts (spec.text_in head.entry) (spec.text_in word.entry)) number }
 {
     match (head, word, number) {
@@ -190,7 +205,12 @@ pub fn number_in(located: &Located) -> Option<FoundNumber<'_>>
     let [head, word, number] = parts else {
         return None;
     };
-    number_of(word_of(head), word_of(word), short_number(number), located.place)
+    number_of(
+        word_of(head),
+        word_of(word),
+        short_number(number),
+        located.place,
+    )
 }
 
 fn argument_of<'a>(found: Option<FoundPair<'a>>, number: Option<u32>) -> Option<FoundArgument<'a>>
@@ -221,5 +241,8 @@ pub fn argument_in(located: &Located) -> Option<FoundArgument<'_>>
     let [head, word, number, class] = parts else {
         return None;
     };
-    argument_of(pair_of(word_of(head), word_of(word), word_of(class), located.place), short_number(number))
+    argument_of(
+        pair_of(word_of(head), word_of(word), word_of(class), located.place),
+        short_number(number),
+    )
 }

@@ -8,12 +8,12 @@ ghost use Rattle.signatures.specs.Inherited as spec;
 
 use crate::forms::subject_of;
 use crate::nearest::nearest;
-use taxonomy::Taxonomy;
 use crate::word_table::set;
 use kif_tree::{Located, Text};
 use sigma_base::NoMemory;
 use std::alloc::Global;
 use std::collections::BTreeMap;
+use taxonomy::Taxonomy;
 
 /// The words' own values, and for words without one the nearest word that has one.
 #[derive(Debug, Drop)]
@@ -23,7 +23,13 @@ pub struct Inherited<V> {
 }
 
 /// Notes the nearest word for the word, where it has no value of its own.
-fn note<V>(alloc: Global, taxonomy: &Taxonomy, own: &BTreeMap<Vec<u8>, V>, table: &mut BTreeMap<Vec<u8>, Text>, word: &[u8]) -> Result<(), NoMemory>
+fn note<V>(
+    alloc: Global,
+    taxonomy: &Taxonomy,
+    own: &BTreeMap<Vec<u8>, V>,
+    table: &mut BTreeMap<Vec<u8>, Text>,
+    word: &[u8],
+) -> Result<(), NoMemory>
     ensures { OnOk result (spec.IsNoted taxonomy.now.links own.now table.old table.new word.now) }
 {
     if table.contains_key(word) {
@@ -39,7 +45,12 @@ fn note<V>(alloc: Global, taxonomy: &Taxonomy, own: &BTreeMap<Vec<u8>, V>, table
 }
 
 /// For the words of which forms tell something and that have no value of their own, the nearest word that has one.
-fn nearest_words<V>(alloc: Global, forms: &[Located], taxonomy: &Taxonomy, own: &BTreeMap<Vec<u8>, V>) -> Result<BTreeMap<Vec<u8>, Text>, NoMemory>
+fn nearest_words<V>(
+    alloc: Global,
+    forms: &[Located],
+    taxonomy: &Taxonomy,
+    own: &BTreeMap<Vec<u8>, V>,
+) -> Result<BTreeMap<Vec<u8>, Text>, NoMemory>
     ensures { IfOk result (λ table. spec.AreNoted taxonomy.now.links own.now (filter_map subject forms.now) table) }
 {
     let mut table = BTreeMap::new(alloc);
@@ -53,7 +64,12 @@ fn nearest_words<V>(alloc: Global, forms: &[Located], taxonomy: &Taxonomy, own: 
 }
 
 /// The words' own values, and those that they take from other words by the forms' `subrelation`.
-pub fn inherit<V: Drop>(alloc: Global, forms: &[Located], taxonomy: &Taxonomy, own: BTreeMap<Vec<u8>, V>) -> Result<Inherited<V>, NoMemory>
+pub fn inherit<V: Drop>(
+    alloc: Global,
+    forms: &[Located],
+    taxonomy: &Taxonomy,
+    own: BTreeMap<Vec<u8>, V>,
+) -> Result<Inherited<V>, NoMemory>
     requires { taxonomy.now.links ≡ links forms.now }
     ensures own { IfOk result (λ table. table.own ≡ own) }
     ensures inherits { IfOk result (λ table. spec.Inherits (links forms.now) table) }

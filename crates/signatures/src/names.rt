@@ -90,7 +90,9 @@ fn mark_heads(alloc: Global, marks: &mut Marks, form: &Form) -> Result<(), NoMem
 fn is_shown(form: &Form) -> bool
     ensures { result ≡ relations.is_shown form.now }
 {
-    is_headed(form, b"documentation") || is_headed(form, b"termFormat") || is_headed(form, b"format")
+    is_headed(form, b"documentation")
+        || is_headed(form, b"termFormat")
+        || is_headed(form, b"format")
 }
 
 /// The words that occur in forms that aren't only shown.
@@ -156,7 +158,12 @@ fn is_name(heads: &Marks, arities: &Inherited<Arity>, word: &[u8]) -> bool
 }
 
 /// The relation names among the words, in their order.
-pub fn names_among(alloc: Global, words: Marks, heads: &Marks, arities: &Inherited<Arity>) -> Result<Vec<Text>, NoMemory>
+pub fn names_among(
+    alloc: Global,
+    words: Marks,
+    heads: &Marks,
+    arities: &Inherited<Arity>,
+) -> Result<Vec<Text>, NoMemory>
     ensures names { IfOk result (λ found. found.items ≡ filter (names.is_name heads.now arities.now) (spec.key_words words)) }
     ensures ascending { IfOk result (λ _. relations.AreAscending (spec.key_words words)) }
 {

@@ -45,7 +45,13 @@ fn has_number(entries: &[ArgumentTypes], number: u32) -> bool
 }
 
 /// Adds a table for the number of the argument that the form tells of, where there is none yet.
-fn add_number(alloc: Global, forms: &[Located], taxonomy: &Taxonomy, entries: &mut Vec<ArgumentTypes>, located: &Located) -> Result<(), NoMemory>
+fn add_number(
+    alloc: Global,
+    forms: &[Located],
+    taxonomy: &Taxonomy,
+    entries: &mut Vec<ArgumentTypes>,
+    located: &Located,
+) -> Result<(), NoMemory>
     requires { taxonomy.now.links ≡ links forms.now }
     ensures { OnOk result (tables.AddsNumber forms.now entries.old.items entries.new.items located.now) }
 {
@@ -65,7 +71,11 @@ fn add_number(alloc: Global, forms: &[Located], taxonomy: &Taxonomy, entries: &m
 }
 
 /// A table for each number of an argument of which the forms tell.
-fn argument_types(alloc: Global, forms: &[Located], taxonomy: &Taxonomy) -> Result<Vec<ArgumentTypes>, NoMemory>
+fn argument_types(
+    alloc: Global,
+    forms: &[Located],
+    taxonomy: &Taxonomy,
+) -> Result<Vec<ArgumentTypes>, NoMemory>
     requires { taxonomy.now.links ≡ links forms.now }
     ensures { IfOk result (λ entries. tables.AreTables forms.now forms.now entries.items) }
 {

@@ -7,7 +7,12 @@ use std::alloc::Global;
 use std::collections::BTreeMap;
 
 /// Gives the word the value in the table.
-pub fn set<V: Drop>(alloc: Global, table: &mut BTreeMap<Vec<u8>, V>, word: &[u8], value: V) -> Result<(), NoMemory>
+pub fn set<V: Drop>(
+    alloc: Global,
+    table: &mut BTreeMap<Vec<u8>, V>,
+    word: &[u8],
+    value: V,
+) -> Result<(), NoMemory>
     ensures { OnOk result (spec.IsSet table.old table.new word.now value) }
 {
     let key = Vec::from_slice(alloc, word)?;
