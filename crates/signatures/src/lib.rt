@@ -7,6 +7,8 @@ mod inherited;
 mod names;
 mod nearest;
 mod signatures;
+#[cfg(test)]
+mod tests;
 mod told;
 mod types;
 mod word_table;
