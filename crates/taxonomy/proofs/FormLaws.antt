@@ -1,5 +1,5 @@
 -- What the parts of a form tell.
-use Rattle.std.proofs.Common.{◌≡◌, ℕ, suc, zero, ◌+◌, ◌<◌, ◌≤◌, List, [], ◌∷◌, ◌++◌, length, get_or, take, drop, Bool, true, false, refl, sym, ap, subst, ◌∙◌, arith, if◌then◌else◌, codes}
+use Rattle.std.proofs.Common.{◌≡◌, ℕ, suc, zero, ◌+◌, ◌<◌, ◌≤◌, List, [], ◌∷◌, ◌++◌, length, get_or, take, drop, Bool, true, false, refl, sym, ap, subst, ◌∙◌, arith, if◌then◌else◌, codes, map, ap₂, ◌↔◌}
 use Rattle.std.specs.Prelude.{Option, Some, None, is_some}
 use Rattle.std.proofs.lemmas.List.{take_more}
 use Rattle.kif_tree.specs.Terms.{Bytes}
@@ -11,7 +11,7 @@ use Rattle.kif_tree.specs.declared.place.Place.{Place}
 use Rattle.std.specs.Str.{bytes_eq}
 use Rattle.taxonomy.specs.Forms.{IsDisjointForm}
 use Rattle.taxonomy.specs.declared.told.ChainKind.{ChainKind}
-use Rattle.taxonomy.specs.Told.{word_text, word_layer, text_before, word_texts, parts_of, parts_layer, link_of_words, link_of_kind, kind_of, told_link, parts_a_whole, disjoint_of_words, told_disjoint}
+use Rattle.taxonomy.specs.Told.{told_words, word_text, word_layer, text_before, word_texts, parts_of, parts_layer, link_of_words, link_of_kind, kind_of, told_link, parts_a_whole, disjoint_of_words, told_disjoint}
 
 -- ---- one form
 
@@ -281,3 +281,45 @@ pub link_found : (located : Located) (parts : List Form) (a b c : Form) (head lo
 link_found located parts a b c head low high bytes kind e three is also more p q r k same =
     ap (link_of_kind low high located.place) (k ∙ ap kind_of same)
     ∙ link_of_three located parts a b c (Some head) (Some low) (Some high) e (three_parts parts a b c (omega arith) (omega arith) is also more) p q r
+
+-- ---- the words of a form are those of which it is the list
+
+word_layer_back : (f : Form) (layer : Form-F Form) (text : Bytes) → f ≡ roll-Form layer → word_layer layer ≡ Some text → f ≡ form.Word text
+word_layer_back f (Form-F.Word word) text e is = let same : word ≡ text = cc in e ∙ form.rolls-Word word ∙ ap form.Word same
+word_layer_back f (Form-F.Variable word) text e is = absurd (cc)
+word_layer_back f (Form-F.Row word) text e is = absurd (cc)
+word_layer_back f (Form-F.Numeral word) text e is = absurd (cc)
+word_layer_back f (Form-F.Quoted word) text e is = absurd (cc)
+word_layer_back f (Form-F.List parts) text e is = absurd (cc)
+
+word_back : (f : Form) (text : Bytes) → word_text f ≡ Some text → f ≡ form.Word text
+unfolding word_text
+word_back f text is = word_layer_back f (out-Form f) text (sym (roll-out-Form f)) is
+
+parts_layer_back : (f : Form) (layer : Form-F Form) (part : Form) (parts : List Form) → f ≡ roll-Form layer → parts_layer layer ≡ part ∷ parts → f ≡ form.List (part ∷ parts)
+parts_layer_back f (Form-F.Word word) part parts e is = absurd (cc)
+parts_layer_back f (Form-F.Variable word) part parts e is = absurd (cc)
+parts_layer_back f (Form-F.Row word) part parts e is = absurd (cc)
+parts_layer_back f (Form-F.Numeral word) part parts e is = absurd (cc)
+parts_layer_back f (Form-F.Quoted word) part parts e is = absurd (cc)
+parts_layer_back f (Form-F.List all) part parts e is = e ∙ form.rolls-List all ∙ ap form.List is
+
+parts_back : (f : Form) (part : Form) (parts : List Form) → parts_of f ≡ part ∷ parts → f ≡ form.List (part ∷ parts)
+unfolding parts_of
+parts_back f part parts is = parts_layer_back f (out-Form f) part parts (sym (roll-out-Form f)) is
+
+words_back : (parts : List Form) (texts : List Bytes) → word_texts parts ≡ Some texts → parts ≡ map form.Word texts
+words_back [] texts is = let none : [] ≡ texts = cc in ap (map form.Word) none
+words_back (part ∷ parts) texts is =
+    let s = split_texts part parts texts is in
+    ap₂ ◌∷◌ (word_back part s.text s.first) (words_back parts s.more s.rest) ∙ ap (map form.Word) (sym s.is)
+
+words_there : (texts : List Bytes) → word_texts (map form.Word texts) ≡ Some texts
+words_there [] = refl
+words_there (text ∷ texts) = ap₂ text_before (sym (word_text-Word (form.Word text) text refl)) (words_there texts)
+
+pub told_words_are : (f : Form) (text : Bytes) (texts : List Bytes) → (told_words f ≡ Some (text ∷ texts)) ↔ (f ≡ form.List (map form.Word (text ∷ texts)))
+told_words_are f text texts = (
+  λ told. parts_back f (form.Word text) (map form.Word texts) (words_back (parts_of f) (text ∷ texts) told),
+  λ is. ap word_texts (sym (parts_of-List f (map form.Word (text ∷ texts)) is)) ∙ words_there (text ∷ texts),
+)

@@ -7,3 +7,4 @@ pub mod Names
 pub mod Forms
 pub mod Numbered
 pub mod Tables
+pub mod Laws

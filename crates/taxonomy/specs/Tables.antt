@@ -1,5 +1,5 @@
 -- What a taxonomy keeps of told forms, and how it shows them.
-use Rattle.std.specs.Prelude.{◌≡◌, ◌≢◌, ℕ, ◌<◌, List, [], map, length, get_or, Contains, Option, Some, None}
+use Rattle.std.specs.Prelude.{◌≡◌, ◌≢◌, ℕ, ◌<◌, List, [], map, length, get_or, Bool, MatchBool, Contains, Option, Some, None}
 use Rattle.kif_tree.specs.Terms.{Bytes}
 use Rattle.sigma_base.specs.Lists.{Each}
 use Rattle.taxonomy.specs.declared.closure.Edge.{Edge}
@@ -15,6 +15,10 @@ use Rattle.taxonomy.specs.Graph.{IsClosure}
 use Rattle.taxonomy.specs.Names.{AreNumbered}
 use Rattle.taxonomy.specs.Numbered.{word, named, named_group, LinksWithin, GroupsWithin}
 use Rattle.taxonomy.specs.Told.{Link, ToldTaxonomy}
+
+-- the answer is whether P holds
+abbrev pub Tells : Bool → Type 0 → Type 0
+Tells answer P = MatchBool answer P (P → ⊥)
 
 abbrev pub edge_of : NumberedLink → Edge
 edge_of link = record { low = link.low; high = link.high }
@@ -52,6 +56,10 @@ shown_as words links groups = record { links = map (named words) links; disjoint
 abbrev pub shown : Tables → ToldTaxonomy
 shown tables = shown_as tables.names.words.items tables.links.items tables.groups.items
 
+-- the word of the number
+abbrev pub word_at : Tables → ℕ → Bytes
+word_at tables number = word tables.names.words.items number
+
 -- the sets are those that paths of the kind's links give
 pub record AreSets (kind : ChainKind) (count : ℕ) (links : List NumberedLink) (sets : List (List Run)) : Type 0 where
   pub edges : List Edge
@@ -74,7 +82,7 @@ IsOther (Some but) number = number ≢ but
 
 -- a word of the group, other than the one that is left out, is at or above the word
 abbrev pub IsFound : Tables → List ℕ → Bytes → Option ℕ → ℕ → Type 0
-IsFound tables group text but number = Contains group number × IsOther but number × IsAtOrAbove (shown tables).links text (word tables.names.words.items number)
+IsFound tables group text but number = Contains group number × IsOther but number × IsAtOrAbove (shown tables).links text (word_at tables number)
 
 abbrev pub NoneIsFound : Tables → List ℕ → Bytes → Option ℕ → Type 0
-NoneIsFound tables group text but = Each (λ (number : ℕ). IsOther but number → IsAtOrAbove (shown tables).links text (word tables.names.words.items number) → ⊥) group
+NoneIsFound tables group text but = Each (λ (number : ℕ). IsOther but number → IsAtOrAbove (shown tables).links text (word_at tables number) → ⊥) group

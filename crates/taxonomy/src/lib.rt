@@ -3,6 +3,7 @@
 
 mod closure;
 mod forms;
+mod laws;
 mod names;
 mod numbered;
 mod order;
@@ -13,5 +14,6 @@ mod taxonomy;
 mod tests;
 mod told;
 
+pub use laws::told_words_law;
 pub use taxonomy::Taxonomy;
 pub use told::{ChainKind, Told};

@@ -39,13 +39,39 @@ fn end_of(runs: &[Run], number: usize) -> Option<usize>
     None
 }
 
-/// A number of the run that the runs don't have.
-fn missing_of(runs: &[Run], run: Run) -> Option<usize>
+/// The place of the first run, from the given one on, that ends behind the number.
+fn skip(runs: &[Run], from: usize, number: usize) -> usize {
+    let mut at = from;
+    while at < runs.len() && runs[at].end <= number {
+        at += 1;
+    }
+    at
+}
+
+/// Where the run with the number ends, if one has it. The run at the given place is looked at first.
+fn end_near(runs: &[Run], near: usize, number: usize) -> Option<usize>
+    ensures { MatchOption result (spec.has runs.now number ≡ false) (λ end. spec.IsCovered runs.now number end) }
+{
+    if near >= runs.len() {
+        return end_of(runs, number);
+    }
+    let run = runs[near];
+    if run.start <= number && number < run.end {
+        return Some(run.end);
+    }
+    end_of(runs, number)
+}
+
+/// A number of the run that the runs don't have. They are looked at from the given place on, and all of them only where that
+/// doesn't settle it.
+fn missing_of(runs: &[Run], run: Run, from: usize) -> Option<usize>
     ensures { MatchOption result (spec.HasRun runs.now run) (λ number. spec.LacksOf runs.now run number) }
 {
     let mut at = run.start;
+    let mut near = from;
     while at < run.end {
-        let Some(end) = end_of(runs, at) else {
+        near = skip(runs, near, at);
+        let Some(end) = end_near(runs, near, at) else {
             return Some(at);
         };
         at = end;
@@ -57,8 +83,10 @@ fn missing_of(runs: &[Run], run: Run) -> Option<usize>
 pub fn missing(first: &[Run], second: &[Run]) -> Option<usize>
     ensures { MatchOption result (spec.HasAll first.now second.now) (λ number. spec.Lacks first.now second.now number) }
 {
+    let mut near = 0;
     for run in second {
-        let found = missing_of(first, *run);
+        near = skip(first, near, run.start);
+        let found = missing_of(first, *run, near);
         if found.is_some() {
             return found;
         }

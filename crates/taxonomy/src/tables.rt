@@ -1,5 +1,5 @@
 //! What a taxonomy keeps: told links and disjoint words by numbers, what is told of each word, and the words below each word.
-ghost use Rattle.std.specs.Prelude.{◌≡◌, ◌<◌, ◌≤◌, ◌++◌, ◌∷◌, [], length, get_or, slice_set, IfOk, OnOk, MatchBool, MatchOption};
+ghost use Rattle.std.specs.Prelude.{◌≡◌, ◌<◌, ◌≤◌, ◌++◌, ◌∷◌, [], length, get_or, slice_set, IfOk, OnOk, MatchOption};
 ghost use Rattle.taxonomy.specs.Chains as chains;
 ghost use Rattle.taxonomy.specs.Disjoint as disjoint;
 ghost use Rattle.taxonomy.specs.Names.{AreNumbered};
@@ -31,7 +31,7 @@ pub struct Tables {
 
 /// Whether the kinds are the same.
 pub fn is_same_kind(kind: ChainKind, other: ChainKind) -> bool
-    ensures { MatchBool result (kind ≡ other) (kind ≡ other → ⊥) }
+    ensures { spec.Tells result (kind ≡ other) }
 {
     match kind {
         ChainKind::Class => match other {
@@ -168,7 +168,7 @@ pub fn tables_of(
 
 /// Whether the number is another one than that which is left out.
 fn is_other(but: Option<usize>, number: usize) -> bool
-    ensures { MatchBool result (spec.IsOther but number) (spec.IsOther but number → ⊥) }
+    ensures { spec.Tells result (spec.IsOther but number) }
 {
     match but {
         Some(but) => number != but,
@@ -204,7 +204,7 @@ impl Tables {
     fn reaches(&self, kind: ChainKind, word: &[u8], high: usize) -> bool
         requires tables { spec.AreTables self.now }
         requires high { high < length self.now.names.words.items }
-        ensures { MatchBool result (spec.Passes (spec.shown self.now).links (chains.later_kind kind) word.now (numbered.word self.now.names.words.items high)) (spec.Passes (spec.shown self.now).links (chains.later_kind kind) word.now (numbered.word self.now.names.words.items high) → ⊥) }
+        ensures { spec.Tells result (spec.Passes (spec.shown self.now).links (chains.later_kind kind) word.now (spec.word_at self.now high)) }
     {
         let Some(low) = self.names.number(word) else {
             return false;
@@ -217,7 +217,7 @@ impl Tables {
     fn leads(&self, kind: ChainKind, low: &[u8], high: usize) -> bool
         requires tables { spec.AreTables self.now }
         requires high { high < length self.now.names.words.items }
-        ensures { MatchBool result (chains.Chain (spec.shown self.now).links kind low.now (numbered.word self.now.names.words.items high)) (chains.Chain (spec.shown self.now).links kind low.now (numbered.word self.now.names.words.items high) → ⊥) }
+        ensures { spec.Tells result (chains.Chain (spec.shown self.now).links kind low.now (spec.word_at self.now high)) }
     {
         for told in self.row(low) {
             if !is_same_kind(told.kind, kind) {
@@ -233,7 +233,7 @@ impl Tables {
     /// Whether a chain leads from one word to the other.
     pub fn is_above(&self, kind: ChainKind, low: &[u8], high: &[u8]) -> bool
         requires { spec.AreTables self.now }
-        ensures { MatchBool result (chains.Chain (spec.shown self.now).links kind low.now high.now) (chains.Chain (spec.shown self.now).links kind low.now high.now → ⊥) }
+        ensures { spec.Tells result (chains.Chain (spec.shown self.now).links kind low.now high.now) }
     {
         match self.names.number(high) {
             Some(number) => self.leads(kind, low, number),
@@ -245,7 +245,7 @@ impl Tables {
     fn is_at_or_above(&self, word: &[u8], number: usize) -> bool
         requires tables { spec.AreTables self.now }
         requires number { number < length self.now.names.words.items }
-        ensures { MatchBool result (chains.IsAtOrAbove (spec.shown self.now).links word.now (numbered.word self.now.names.words.items number)) (chains.IsAtOrAbove (spec.shown self.now).links word.now (numbered.word self.now.names.words.items number) → ⊥) }
+        ensures { spec.Tells result (chains.IsAtOrAbove (spec.shown self.now).links word.now (spec.word_at self.now number)) }
     {
         if word == self.names.words[number].bytes() {
             return true;
@@ -277,7 +277,7 @@ impl Tables {
     fn separates(&self, group: &NumberedGroup, first: &[u8], second: &[u8]) -> bool
         requires tables { spec.AreTables self.now }
         requires group { numbered.AreBelow (length self.now.names.words.items) group.now.words }
-        ensures { MatchBool result (disjoint.Separates (spec.shown self.now).links (numbered.named_group self.now.names.words.items group.now) first.now second.now) (disjoint.Separates (spec.shown self.now).links (numbered.named_group self.now.names.words.items group.now) first.now second.now → ⊥) }
+        ensures { spec.Tells result (disjoint.Separates (spec.shown self.now).links (numbered.named_group self.now.names.words.items group.now) first.now second.now) }
     {
         let words = group.words.items();
         let Some(one) = self.above(words, first, None) else {

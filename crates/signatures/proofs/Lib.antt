@@ -1,0 +1,10 @@
+pub mod LayerLaws
+pub mod SubjectLaws
+pub mod ArityLaws
+pub mod TableLaws
+pub mod NameLaws
+pub mod MarkLaws
+pub mod ArgumentLaws
+pub mod TypeLaws
+pub mod WordTableLaws
+pub mod FormLaws

@@ -1,0 +1,5 @@
+use Rattle.signatures.proofs.FormLaws.{no_number}
+use Rattle.signatures.proofs.forms.number_in.Goals as goal
+
+pub returns-then-parts-ne3 : goal.returns-then-parts-ne3
+returns-then-parts-ne3 c = no_number c.args.located.now c.parts_of-parts.result.now c.parts_of-parts.ensures c.if-parts-ne3.true

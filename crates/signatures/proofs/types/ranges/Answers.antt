@@ -1,0 +1,8 @@
+use Rattle.signatures.specs.TypeTables.{range_at}
+use Rattle.signatures.proofs.TypeLaws.{told_more}
+use Rattle.signatures.proofs.types.ranges.Goals as goal
+
+pub loop-located-preserved : goal.loop-located-preserved
+loop-located-preserved c =
+    told_more range_at c.args.forms.now c.loop-located.located-index c.located-item.result c.loop-located.table c.add.new.table c.range_in.result c.loop-located-test.true c.located-item.is c.loop-located.invariant
+    c.range_in.ensures c.in_ok-add.ensures

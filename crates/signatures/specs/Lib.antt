@@ -1,0 +1,14 @@
+pub mod Nearest
+pub mod Arities
+pub mod Types
+pub mod Relations
+pub mod Layers
+pub mod Forms
+pub mod WordTables
+pub mod Inherited
+pub mod OwnArities
+pub mod TypeTables
+pub mod Tables
+pub mod ArgumentTables
+pub mod Marks
+pub mod Names

@@ -1,0 +1,49 @@
+-- Types told of words, as tables of them grow.
+use Rattle.std.specs.Prelude.{◌≡◌, ℕ, List, [], ◌∷◌, ◌++◌, Bool, false, Option, Some, None, if◌then◌else◌, unwrap_or}
+use Rattle.std.specs.BTreeMap.{BTreeMap}
+use Rattle.std.specs.List.{filter_map, cons_option}
+use Rattle.std.specs.Str.{bytes_eq}
+use Rattle.kif_tree.specs.Terms.{Bytes}
+use Rattle.kif_tree.specs.declared.place.Located.{Located}
+use Rattle.taxonomy.specs.Told.{ToldArgument, told_argument, ToldPair, told_pair}
+use Rattle.signatures.specs.declared.told.TypeTold.{TypeTold}
+use Rattle.signatures.specs.declared.types.FoundType.{FoundType}
+use Rattle.signatures.specs.Types.{type_in, range_in}
+use Rattle.signatures.specs.WordTables.{Key, find}
+
+-- a list that a table has; it has none that is empty
+abbrev pub as_found : List TypeTold → Option (List TypeTold)
+as_found [] = None
+as_found (told ∷ more) = Some (told ∷ more)
+
+-- what is found, where it is told of the word
+abbrev pub found_for : Bytes → Option FoundType → Option TypeTold
+found_for word (Some found) = if bytes_eq found.word.now word then Some (record { subclass = found.subclass; class = found.class.now; place = found.place }) else None
+found_for word None = None
+
+abbrev pub type_by : Bytes → ℕ → Option ToldArgument → Option TypeTold
+type_by word number (Some told) = type_in word number told
+type_by word number None = None
+
+abbrev pub range_by : Bytes → Option ToldPair → Option TypeTold
+range_by word (Some told) = range_in word told
+range_by word None = None
+
+-- what the form tells of the word's argument, and of the function's values
+abbrev pub type_at : ℕ → Bytes → Located → Option TypeTold
+type_at number word located = type_by word number (told_argument located)
+
+abbrev pub range_at : Bytes → Located → Option TypeTold
+range_at word located = range_by word (told_pair located)
+
+-- the word's list without the word in the table
+abbrev pub IsTaken : BTreeMap Key (List TypeTold) → BTreeMap Key (List TypeTold) → Bytes → Type 0
+IsTaken old new word = (other : Bytes) → bytes_eq other word ≡ false → find new other ≡ find old other
+
+-- what is found is added last for its word
+abbrev pub AddsFound : BTreeMap Key (List TypeTold) → BTreeMap Key (List TypeTold) → Option FoundType → Type 0
+AddsFound old new found = (word : Bytes) (types : List TypeTold) → find old word ≡ as_found types → find new word ≡ as_found (types ++ cons_option (found_for word found) [])
+
+-- the table has what the forms tell of each word
+abbrev pub AreToldTypes : (Bytes → Located → Option TypeTold) → List Located → BTreeMap Key (List TypeTold) → Type 0
+AreToldTypes told forms table = (word : Bytes) → find table word ≡ as_found (filter_map (told word) forms)

@@ -1,0 +1,17 @@
+//! What told forms say of relations and functions: how many arguments they take, of which types, and what the values of functions are.
+#![tactic(auto)]
+
+mod arities;
+mod forms;
+mod inherited;
+mod names;
+mod nearest;
+mod signatures;
+#[cfg(test)]
+mod tests;
+mod told;
+mod types;
+mod word_table;
+
+pub use signatures::Signatures;
+pub use told::{Arity, TypeTold};

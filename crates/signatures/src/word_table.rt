@@ -1,0 +1,21 @@
+//! Tables with a value for some words.
+ghost use Rattle.std.specs.Prelude.{OnOk};
+ghost use Rattle.signatures.specs.WordTables as spec;
+
+use sigma_base::NoMemory;
+use std::alloc::Global;
+use std::collections::BTreeMap;
+
+/// Gives the word the value in the table.
+pub fn set<V: Drop>(
+    alloc: Global,
+    table: &mut BTreeMap<Vec<u8>, V>,
+    word: &[u8],
+    value: V,
+) -> Result<(), NoMemory>
+    ensures { OnOk result (spec.IsSet table.old table.new word.now value) }
+{
+    let key = Vec::from_slice(alloc, word)?;
+    table.insert(key, value)?;
+    Ok(())
+}
