@@ -102,7 +102,11 @@ fn starts(alloc: Global, count: usize, edges: &[Edge]) -> Result<Vec<bool>, NoMe
 }
 
 /// The numbers below the count, each behind those below it where no cycle forbids it.
-pub fn lowest_first(alloc: Global, count: usize, edges: &[Edge]) -> Result<Vec<usize>, NoMemory> {
+pub(crate) fn lowest_first(
+    alloc: Global,
+    count: usize,
+    edges: &[Edge],
+) -> Result<Vec<usize>, NoMemory> {
     let starts = starts(alloc, count, edges)?;
     let mut search = Search::new(alloc, count, edges)?;
     let mut number: usize = 0;
