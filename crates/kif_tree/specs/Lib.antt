@@ -1,6 +1,8 @@
 pub mod Clauses
 pub mod FormLaws
 pub mod Laws
+pub mod Names
+pub mod Places
 pub mod Printed
 pub mod SameLaws
 pub mod Shape
