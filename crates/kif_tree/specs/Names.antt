@@ -1,10 +1,10 @@
 -- Variables and row variables: where they are free, and the lists of a form.
-use Rattle.std.specs.Prelude.{List, [], ◌∷◌, map, filter, Bool, not, ◌&&◌, if◌then◌else◌}
-use Rattle.std.specs.List.{list_any, flat_map}
+use Rattle.std.specs.Prelude.{List, [], ◌∷◌, map, filter, Bool, not, ◌&&◌, if◌then◌else◌, codes, eqb}
+use Rattle.std.specs.List.{list_any, flat_map, ends_with}
 use Rattle.kif_tree.specs.declared.form.Form.{Form, para-Form, out-Form}
 use Rattle.kif_tree.specs.declared.form.Form.TheOpen.{Form-F}
 use Rattle.kif_tree.specs.declared.form.Form.TheVariants as form
-use Rattle.kif_tree.specs.Terms.{same}
+use Rattle.kif_tree.specs.Terms.{Bytes, same}
 use Rattle.kif_tree.specs.Shape.{is_quantifier, lists_names_layer}
 
 abbrev pub parts_layer : Form-F Form → List Form
@@ -51,3 +51,7 @@ lists_step (Form-F.List parts) = map (λ (part : Form × List (List Form)). part
 -- the lists of the form at any depth, itself among them, each as its parts
 unfoldable pub lists : Form → List (List Form)
 lists = para-Form (List (List Form)) lists_step
+
+-- a word that ends in `Fn` names a function
+abbrev pub is_function_word : Bytes → Bool
+is_function_word word = ends_with eqb word (codes "Fn")
