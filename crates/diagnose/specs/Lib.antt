@@ -1,0 +1,5 @@
+pub mod Arguments
+pub mod Diagnostics
+pub mod Found
+pub mod Variables
+pub mod Words

@@ -1,0 +1,8 @@
+//! What is wrong with forms, by the tables that are made of them.
+#![tactic(auto)]
+
+mod diagnostic;
+mod list;
+
+pub use diagnostic::Diagnostic;
+pub use list::diagnose;
