@@ -5,3 +5,4 @@ pub mod ShapeLaws
 pub mod SubstLaws
 pub mod TermLaws
 pub mod VariableLaws
+pub mod WordSetLaws

@@ -8,3 +8,4 @@ pub mod SameLaws
 pub mod Shape
 pub mod Subst
 pub mod Terms
+pub mod WordSets

@@ -14,6 +14,7 @@ mod terms;
 #[cfg(test)]
 mod tests;
 mod text;
+mod word_set;
 
 pub use clause::{Clause, InputClause, Literal};
 pub use equal::{forms_equal, literals_equal};
@@ -26,3 +27,4 @@ pub use shape::{first_fault_in, has_word, is_shaped};
 pub use subst::{Pair, Subst, Unnamed, fill, followed_by, ground_instance, substitute};
 pub use terms::{depth, has_no_row, is_ground, occurs, symbols, variables_in, variables_of};
 pub use text::Text;
+pub use word_set::WordSet;
