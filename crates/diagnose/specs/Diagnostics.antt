@@ -19,13 +19,16 @@ IsOfWord forms d =
     ⊎ (((d.code ≡ 3) × HasDisjointParents forms d.place d.term d.other)
     ⊎ ((d.code ≡ 11) × HasUnstatedArity forms d.place d.term d.other)))
 
--- a diagnostic of a form's lists and variables
+-- of the arguments of a form's lists
+abbrev pub IsOfArguments : List Located → Form → Diagnostic → Type 0
+IsOfArguments forms f d = ((d.code ≡ 4) × HasWrongType forms f d.term d.other) ⊎ ((d.code ≡ 5) × HasWrongCount forms f d.term d.other)
+
+-- of the form's variables
+abbrev pub IsOfVariables : Form → Diagnostic → Type 0
+IsOfVariables f d = ((d.code ≡ 6) × HasUnquantified f d.term d.other) ⊎ ((d.code ≡ 7) × HasUnused f d.term d.other)
+
 abbrev pub IsOfForm : List Located → Form → Diagnostic → Type 0
-IsOfForm forms f d =
-    ((d.code ≡ 4) × HasWrongType forms f d.term d.other)
-    ⊎ (((d.code ≡ 5) × HasWrongCount forms f d.term d.other)
-    ⊎ (((d.code ≡ 6) × HasUnquantified f d.term d.other)
-    ⊎ ((d.code ≡ 7) × HasUnused f d.term d.other)))
+IsOfForm forms f d = IsOfArguments forms f d ⊎ IsOfVariables f d
 
 -- a form that isn't only shown stands at its place
 pub record IsInForm (forms : List Located) (d : Diagnostic) : Type 0 where

@@ -2,4 +2,5 @@ pub mod Arguments
 pub mod Diagnostics
 pub mod Found
 pub mod Variables
+pub mod WordTables
 pub mod Words
