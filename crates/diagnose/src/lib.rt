@@ -3,6 +3,7 @@
 
 mod diagnostic;
 mod list;
+mod variables;
 
 pub use diagnostic::Diagnostic;
 pub use list::diagnose;
