@@ -19,6 +19,10 @@ is_listed names name = list_any (same (form.Variable name)) names
 abbrev pub is_free : Form → Bytes → Bool
 is_free f name = is_listed (free f) name
 
+-- it is free in one of the forms
+abbrev pub is_free_in : List Form → Bytes → Bool
+is_free_in forms name = list_any (λ f. is_free f name) forms
+
 -- just the names that pass the test were added
 abbrev pub Collects : (Bytes → Bool) → List Bytes → List Bytes → Type 0
 Collects test old new = (name : Bytes) → is_among new name ≡ (is_among old name || test name)

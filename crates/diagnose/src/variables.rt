@@ -7,7 +7,7 @@ ghost use Rattle.kif_tree.specs.Terms.{Bytes};
 ghost use Rattle.kif_tree.specs.declared.form.Form.{Form, out-Form};
 ghost use Rattle.kif_tree.specs.declared.form.Form.TheVariants as form_of;
 ghost use Rattle.diagnose.specs.Diagnostics.{IsOfVariables};
-ghost use Rattle.diagnose.specs.Found.{Adds};
+ghost use Rattle.diagnose.specs.Found.{Adds, OfSome};
 ghost use Rattle.diagnose.specs.Variables as variables;
 ghost use Rattle.diagnose.specs.VariableWalk as spec;
 
@@ -117,7 +117,7 @@ fn add_unless(
     set: &WordSet,
     found: &mut Vec<Diagnostic>,
 ) -> Result<(), NoMemory>
-    ensures { OnOk result (Adds (spec.IsOnlyIn code place (bytes_eq name.now) (shape.is_among set.now)) found.old.items found.new.items) }
+    ensures { OnOk result (Adds (spec.IsOnlyIn code place (λ other. bytes_eq other name.now) (shape.is_among set.now)) found.old.items found.new.items) }
 {
     if set.has(name) {
         return Ok(());
@@ -171,13 +171,27 @@ fn collect_list(
     ensures free { OnOk result (spec.Collects (spec.is_free (form_of.List parts.now)) free.old free.new) }
     ensures found { OnOk result (Adds (spec.IsUnusedAt place (form_of.List parts.now)) found.old.items found.new.items) }
 {
-    if let [head, names, body] = parts {
-        if quantifies(head, names) {
+    match parts {
+        [head, names, body] if quantifies(head, names) => {
             let mut within = WordSet::new(alloc);
             collect(alloc, place, body, &mut within, found)?;
-            return leave(alloc, place, parts_in(names), within, free, found);
+            leave(alloc, place, parts_in(names), within, free, found)
         }
+        _ => collect_all(alloc, place, parts, free, found),
     }
+}
+
+#[cycle(collect)]
+fn collect_all(
+    alloc: Global,
+    place: Place,
+    parts: &[Form],
+    free: &mut WordSet,
+    found: &mut Vec<Diagnostic>,
+) -> Result<(), NoMemory>
+    ensures free { OnOk result (spec.Collects (spec.is_free_in parts.now) free.old free.new) }
+    ensures found { OnOk result (Adds (OfSome (spec.IsUnusedAt place) parts.now) found.old.items found.new.items) }
+{
     for part in parts {
         collect(alloc, place, part, free, found)?;
     }
@@ -235,7 +249,10 @@ fn remove_listed(set: &mut WordSet, listed: &[Form])
 fn quantifies(head: &Form, names: &Form) -> bool
     ensures { result ≡ (shape.is_quantifier head.now && shape.lists_names_layer (out-Form names.now)) }
 {
-    is_quantifier(head) && lists_names(names)
+    match names {
+        Form::List(parts) => is_quantifier(head) && lists_names(parts.items()),
+        _ => false,
+    }
 }
 
 fn is_quantifier(head: &Form) -> bool
@@ -249,13 +266,10 @@ fn is_quantifier(head: &Form) -> bool
     }
 }
 
-fn lists_names(form: &Form) -> bool
-    ensures { result ≡ shape.lists_names_layer (out-Form form.now) }
+fn lists_names(parts: &[Form]) -> bool
+    ensures { result ≡ shape.lists_names parts.now }
 {
-    let Form::List(parts) = form else {
-        return false;
-    };
-    for part in parts.items() {
+    for part in parts {
         if !matches!(part, Form::Variable(_) | Form::Row(_)) {
             return false;
         }

@@ -1,0 +1,3 @@
+pub mod FoundLaws
+mod FreeLaws
+mod VariableLaws
