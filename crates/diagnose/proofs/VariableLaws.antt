@@ -481,3 +481,48 @@ pub free_more : (parts : List Form) (i : ℕ) (f : Form) (old mid new : List Byt
 free_more parts i f old mid new lt is h k = λ name.
     k name ∙ ap (λ b. b || is_free f name) (h name) ∙ or_twice (is_among old name) (is_free_in (take i parts) name) (is_free f name)
     ∙ ap (λ b. is_among old name || b) (sym (free_in_more parts i f lt is name))
+
+pub three_items : (parts : List Form) (head names body : Form) → 3 ≤ length parts → length parts < 4 → head ≡ get_or parts 0 head → names ≡ get_or parts 1 names → body ≡ get_or parts 2 body
+    → parts ≡ head ∷ names ∷ body ∷ []
+three_items [] head names body h k a b c = absurd (omega arith)
+three_items (x ∷ []) head names body h k a b c = absurd (omega arith)
+three_items (x ∷ y ∷ []) head names body h k a b c = absurd (omega arith)
+three_items (x ∷ y ∷ z ∷ []) head names body h k a b c = ap₂ (λ e ps. e ∷ ps) (sym a) (ap₂ (λ e f. e ∷ f ∷ []) (sym b) (sym c))
+three_items (x ∷ y ∷ z ∷ w ∷ parts) head names body h k a b c = absurd (omega arith)
+
+pub free_of_quantifier : {T E : Type 0} (result : Result T E) (parts : List Form) (head names body : Form) (listed : List Form) (none within old new : List Bytes)
+    → parts ≡ head ∷ names ∷ body ∷ [] → quantifies head names ≡ true → listed ≡ parts_in names → none ≡ [] → Collects (is_free body) none within
+    → OnOk result (Collects (λ name. is_among within name && not (is_listed listed name)) old new) → OnOk result (Collects (is_free (form.List parts)) old new)
+free_of_quantifier result parts head names body listed none within old new is binds same empty inside h =
+    on_ok result (Collects (λ name. is_among within name && not (is_listed listed name)) old new) (Collects (is_free (form.List parts)) old new)
+    (λ k name. k name ∙ ap (λ b. is_among old name || b)
+    (ap₂ (λ b fs. b && not (is_listed fs name)) (collected body none within empty inside name) same ∙ sym (is_free_quantified head names body binds name)
+    ∙ ap (λ ps. is_free (form.List ps) name) (sym is))) h
+
+pub unused_of_quantifier : {T E : Type 0} (result : Result T E) (place : Place) (parts : List Form) (head names body : Form) (listed : List Form) (none within : List Bytes) (old mid new : List Diagnostic)
+    → parts ≡ head ∷ names ∷ body ∷ [] → quantifies head names ≡ true → listed ≡ parts_in names → none ≡ [] → Collects (is_free body) none within → Adds (IsUnusedAt place body) old mid
+    → OnOk result (Adds (IsOnlyIn 7 place (is_listed listed) (is_among within)) mid new) → OnOk result (Adds (IsUnusedAt place (form.List parts)) old new)
+unused_of_quantifier result place parts head names body listed none within old mid new is binds same empty inside h k =
+    on_ok result (Adds (IsOnlyIn 7 place (is_listed listed) (is_among within)) mid new) (Adds (IsUnusedAt place (form.List parts)) old new)
+    (λ a. subst (λ (ps : List Form). Adds (IsUnusedAt place (form.List ps)) old new) (sym is)
+    (adds_of_quantifier place head names body old mid new binds h
+    (adds_only_same 7 place (is_listed listed) (is_among within) (is_listed (parts_in names)) (is_free body) mid new (λ name. ap (λ fs. is_listed fs name) same) (collected body none within empty inside) a))) k
+
+pub bound_of_three : (parts : List Form) (head names body : Form) → parts ≡ head ∷ names ∷ body ∷ [] → quantifies head names ≡ false → bound parts ≡ []
+bound_of_three parts head names body is plain_list = ap bound is ∙ bound_unquantified head names body plain_list
+
+pub free_of_plain : {T E : Type 0} (result : Result T E) (parts : List Form) (old new : List Bytes) → bound parts ≡ [] → OnOk result (Collects (is_free_in parts) old new)
+    → OnOk result (Collects (is_free (form.List parts)) old new)
+free_of_plain result parts old new empty h =
+    on_ok result (Collects (is_free_in parts) old new) (Collects (is_free (form.List parts)) old new) (λ k name. k name ∙ ap (λ b. is_among old name || b) (sym (is_free_parts parts empty name))) h
+
+pub unused_of_plain : {T E : Type 0} (result : Result T E) (place : Place) (parts : List Form) (old new : List Diagnostic) → bound parts ≡ [] → OnOk result (Adds (OfSome (IsUnusedAt place) parts) old new)
+    → OnOk result (Adds (IsUnusedAt place (form.List parts)) old new)
+unused_of_plain result place parts old new empty h =
+    on_ok result (Adds (OfSome (IsUnusedAt place) parts) old new) (Adds (IsUnusedAt place (form.List parts)) old new) (adds_of_parts place parts old new empty) h
+
+-- a form, said in other words
+pub faults_of : {T E : Type 0} (result : Result T E) (place : Place) (f : Form) (word : Bytes) (first second one two : Form) (old new : List Diagnostic) → f ≡ implication word one two → first ≡ one → second ≡ two
+    → OnOk result (Adds (IsFaultAt place (implication word first second)) old new) → OnOk result (Adds (IsFaultAt place f) old new)
+faults_of result place f word first second one two old new is e k h =
+    subst (λ (g : Form). OnOk result (Adds (IsFaultAt place g) old new)) (ap₂ (implication word) e k ∙ sym is) h
