@@ -1,1 +1,4 @@
 pub mod OrderLaws
+pub mod FoundLaws
+mod FreeLaws
+mod VariableLaws

@@ -4,6 +4,7 @@
 mod diagnostic;
 mod list;
 mod order;
+mod variables;
 
 pub use diagnostic::Diagnostic;
 pub use list::diagnose;
