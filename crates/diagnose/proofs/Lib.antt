@@ -1,4 +1,8 @@
-pub mod OrderLaws
 pub mod FoundLaws
 mod FreeLaws
+pub mod OneListLaws
+pub mod OrderLaws
+pub mod PlaceLaws
+pub mod StandLaws
 mod VariableLaws
+pub mod WholeLaws

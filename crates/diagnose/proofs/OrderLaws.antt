@@ -21,13 +21,11 @@ use Rattle.taxonomy.proofs.ChainLaws.{contains_head, contains_tail, in_map, map_
 use Rattle.taxonomy.proofs.GraphLaws.{each_in}
 use Rattle.diagnose.specs.declared.diagnostic.Diagnostic.{Diagnostic}
 use Rattle.diagnose.specs.declared.order.Rank.{Rank}
-use Rattle.diagnose.specs.contracts.order.RankOrd as rank_order
-use Rattle.kif_tree.specs.contracts.place.PlaceOrd as place_order
 use Rattle.diagnose.specs.Diagnostics.{StandsBefore, OtherBefore, ComesBefore, AreAscending}
-use Rattle.diagnose.specs.Order.{find, ArePositions, position_of, place_at, place_of, rank_of, diagnostic_of, AddsRank, AreRanks, IsFormPlace, AreKnown, Appends}
+use Rattle.diagnose.specs.Order.{place_order, rank_order, find, ArePositions, position_of, place_at, place_of, rank_of, diagnostic_of, AddsRank, AreRanks, IsFormPlace, AreKnown, Appends}
 
 abbrev order : Rank → Rank → Ordering
-order = rank_order.TheImpl.ghosts.cmp
+order = rank_order
 
 -- ---- orderings
 
@@ -53,7 +51,7 @@ option_equal None (Some y) h = absurd (cc)
 option_equal (Some x) None h = absurd (cc)
 option_equal (Some x) (Some y) h = ap Some (nat_equal x y h)
 
-pub equal_places : (a b : Place) → place_order.TheImpl.ghosts.cmp a b ≡ Equal → a ≡ b
+pub equal_places : (a b : Place) → place_order a b ≡ Equal → a ≡ b
 equal_places a b h =
     let one = then_equal (nat_cmp a.constituent b.constituent) (ordering_then (nat_cmp a.form b.form) (ordering_then (nat_cmp a.line b.line) (nat_cmp a.column b.column))) h in
     let two = then_equal (nat_cmp a.form b.form) (ordering_then (nat_cmp a.line b.line) (nat_cmp a.column b.column)) one.1 in
@@ -315,21 +313,21 @@ differ_at (first ∷ forms) (suc n) (suc m) one other h e k lt same = differ_at 
 nat_same : (x : ℕ) → nat_cmp x x ≡ Equal
 nat_same x = sym (nat_cmp_is x x Equal refl)
 
-same_place : (a : Place) → place_order.TheImpl.ghosts.cmp a a ≡ Equal
+same_place : (a : Place) → place_order a a ≡ Equal
 same_place a =
     ap₂ ordering_then (nat_same a.constituent) (ap₂ ordering_then (nat_same a.form) (ap₂ ordering_then (nat_same a.line) (nat_same a.column)))
 
 pub position_added : (forms : List Located) (old new : BTreeMap Place ℕ) (index : ℕ) (located : Located) → PlacesDiffer forms → slice_get forms index ≡ Some located
-    → ((q : Place) → find new q ≡ cond (is_at (place_order.TheImpl.ghosts.cmp located.place) q) (Some index) (find old q))
+    → ((q : Place) → find new q ≡ cond (is_at (place_order located.place) q) (Some index) (find old q))
     → ((n : ℕ) (l : Located) → n < index → slice_get forms n ≡ Some l → find old l.place ≡ Some n)
     → (n : ℕ) (l : Located) → n < index + 1 → slice_get forms n ≡ Some l → find new l.place ≡ Some n
-position_added forms old new index located differ at update earlier n l lt e = update l.place ∙ go (place_order.TheImpl.ghosts.cmp located.place l.place) refl (nat_cmp n index) (ranks n index)
+position_added forms old new index located differ at update earlier n l lt e = update l.place ∙ go (place_order located.place l.place) refl (nat_cmp n index) (ranks n index)
   where
-    go : (o : Ordering) → place_order.TheImpl.ghosts.cmp located.place l.place ≡ o → (r : Ordering) → MatchOrdering r (n < index) (n ≡ index) (index < n) → cond (is_eq o) (Some index) (find old l.place) ≡ Some n
+    go : (o : Ordering) → place_order located.place l.place ≡ o → (r : Ordering) → MatchOrdering r (n < index) (n ≡ index) (index < n) → cond (is_eq o) (Some index) (find old l.place) ≡ Some n
     go o is Greater after = absurd (omega (arith, after, lt))
     go o is Equal same =
         let one : Some l ≡ Some located = sym e ∙ ap (slice_get forms) same ∙ at in
-        let equal : o ≡ Equal = sym is ∙ ap (place_order.TheImpl.ghosts.cmp located.place) (let k : l ≡ located = cc in ap (λ (x : Located). x.place) k) ∙ same_place located.place in
+        let equal : o ≡ Equal = sym is ∙ ap (place_order located.place) (let k : l ≡ located = cc in ap (λ (x : Located). x.place) k) ∙ same_place located.place in
         ap (λ (r : Ordering). cond (is_eq r) (Some index) (find old l.place)) equal ∙ ap Some (sym same)
     go Equal is Less before = absurd (differ_at forms n index l located differ e at before (sym (equal_places located.place l.place is)))
     go Less is Less before = earlier n l before e

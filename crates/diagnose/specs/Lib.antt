@@ -1,8 +1,11 @@
 pub mod Arguments
 pub mod Diagnostics
 pub mod Found
+pub mod Laws
 pub mod Order
+pub mod SoFar
 pub mod VariableWalk
 pub mod Variables
+pub mod WordFaults
 pub mod WordTables
 pub mod Words

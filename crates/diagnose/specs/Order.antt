@@ -1,6 +1,10 @@
 -- Diagnostics of one form, as they are put in order.
 use Rattle.std.specs.Prelude.{◌≡◌, ℕ, ◌⊎◌, ◌↔◌, List, [], ◌∷◌, ◌++◌, map, length, get_or, Option, Some, None, Contains, slice_get}
 use Rattle.std.specs.BTreeMap.{BTreeMap, get_by}
+use Rattle.std.specs.Cmp.Lexicographic.{slice_cmp}
+use Rattle.std.specs.Option.{option_cmp}
+use Rattle.std.specs.Ordering.{nat_cmp, ordering_then}
+use Rattle.std.specs.declared.cmp.Ordering.{Ordering}
 use Rattle.std.specs.BTreeSet.{BTreeSet, IsOrdered}
 use Rattle.sigma_base.specs.Lists.{Each}
 use Rattle.kif_tree.specs.declared.place.Located.{Located}
@@ -8,11 +12,17 @@ use Rattle.kif_tree.specs.declared.place.Place.{Place}
 use Rattle.diagnose.specs.declared.diagnostic.Diagnostic.{Diagnostic}
 use Rattle.diagnose.specs.declared.order.Rank.{Rank}
 use Rattle.diagnose.specs.Diagnostics.{AreAscending}
-use Rattle.kif_tree.specs.contracts.place.PlaceOrd as place_order
-use Rattle.diagnose.specs.contracts.order.RankOrd as rank_order
+
+-- places by their numbers in turn
+abbrev pub place_order : Place → Place → Ordering
+place_order a b = ordering_then (nat_cmp a.constituent b.constituent) (ordering_then (nat_cmp a.form b.form) (ordering_then (nat_cmp a.line b.line) (nat_cmp a.column b.column)))
+
+-- ranks by code, term and position
+abbrev pub rank_order : Rank → Rank → Ordering
+rank_order a b = ordering_then (nat_cmp a.code b.code) (ordering_then (slice_cmp nat_cmp a.term b.term) (option_cmp nat_cmp a.other b.other))
 
 abbrev pub find : BTreeMap Place ℕ → Place → Option ℕ
-find table place = get_by (place_order.TheImpl.ghosts.cmp place) table
+find table place = get_by (place_order place) table
 
 -- each form's place has the form's position
 pub record ArePositions (forms : List Located) (table : BTreeMap Place ℕ) : Type 0 where
@@ -38,12 +48,12 @@ diagnostic_of forms place rank = record { code = rank.code; place = place; term 
 
 -- just this rank was added
 pub record AddsRank (old new : BTreeSet Rank) (rank : Rank) : Type 0 where
-  pub ordered : IsOrdered rank_order.TheImpl.ghosts.cmp new
+  pub ordered : IsOrdered rank_order new
   pub has : (other : Rank) → Contains new.keys other ↔ (Contains old.keys other ⊎ (rank ≡ other))
 
 -- the ranks are those of the diagnostics, in order
 pub record AreRanks (table : BTreeMap Place ℕ) (found : List Diagnostic) (ranks : BTreeSet Rank) : Type 0 where
-  pub ordered : IsOrdered rank_order.TheImpl.ghosts.cmp ranks
+  pub ordered : IsOrdered rank_order ranks
   pub are : (rank : Rank) → Contains ranks.keys rank ↔ Contains (map (rank_of table) found) rank
 
 -- the other place, where there is one, is that of a form

@@ -1,10 +1,14 @@
 //! What is wrong with forms, by the tables that are made of them.
 #![tactic(auto)]
 
+mod arguments;
 mod diagnostic;
+mod laws;
 mod list;
 mod order;
 mod variables;
+mod words;
 
 pub use diagnostic::Diagnostic;
+pub use laws::one_list_law;
 pub use list::diagnose;

@@ -90,9 +90,7 @@ pub fn append_ordered(
     found: Vec<Diagnostic>,
     list: &mut Vec<Diagnostic>,
 ) -> Result<(), NoMemory>
-    requires positions { spec.ArePositions forms.now positions.now }
-    requires known { spec.AreKnown forms.now place found.items }
-    ensures { OnOk result (spec.Appends forms.now found.items list.old.items list.new.items) }
+    ensures { OnOk result (spec.ArePositions forms.now positions.now → spec.AreKnown forms.now place found.items → spec.Appends forms.now found.items list.old.items list.new.items) }
 {
     let mut ranks = ranks(alloc, positions, found)?;
     while let Some(rank) = ranks.pop_first() {
