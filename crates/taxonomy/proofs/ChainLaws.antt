@@ -363,3 +363,29 @@ same_bytes xs ys e = go (bytes_eq xs ys) refl e
     go : (b : Bool) → bytes_eq xs ys ≡ b → false ≡ not b → xs ≡ ys
     go true test e = (bytes_eq-Decides xs ys).0 test
     go false test e = absurd (cc)
+
+-- nothing is at or above a word that has no number, but the word itself
+unknown_above : (words : List Bytes) (links : List NumberedLink) (n : ℕ) (text : Bytes) → LinksWithin (length words) links → (Contains words text → ⊥) → n < length words
+    → IsAtOrAbove (map (named words) links) text (word words n) → ⊥
+unknown_above words links n text within fresh lt above = cases above
+  where
+    none : (kind : ChainKind) (chain : List Link) → Each (λ (link : Link). Contains (map (named words) links) link) chain → IsChain kind chain → Joins chain text (word words n) → ⊥
+    none kind [] told is joins = is
+    none kind (link ∷ chain) told is joins = fresh (subst (Contains words) joins.0 (low_among words links link within told.0).0)
+
+    cases : IsAtOrAbove (map (named words) links) text (word words n) → ⊥
+    cases (inl same) = fresh (contains_word words n text lt (sym same))
+    cases (inr (inl c)) = none kinds.Class c.chain c.told c.is c.joins
+    cases (inr (inr c)) = none kinds.Instance c.chain c.told c.is c.joins
+
+pub none_unknown : (words : List Bytes) (links : List NumberedLink) (groups : List NumberedGroup) (many : ℕ) (text : Bytes) → LinksWithin (length words) links → GroupsWithin (length words) groups
+    → (Contains words text → ⊥) → Each (λ (group : NumberedGroup). Separates (map (named words) links) (named_group words group) text text → ⊥) (take many groups)
+none_unknown words links groups many text within inside fresh =
+    each_of_take (λ (group : NumberedGroup). Separates (map (named words) links) (named_group words group) text text → ⊥) groups many no_group
+  where
+    no_group : (i : ℕ) (group : NumberedGroup) → i < many → i < length groups → group ≡ get_or groups i group → Separates (map (named words) links) (named_group words group) text text → ⊥
+    no_group i group before below there s =
+        let one = in_map (word words) group.words s.one s.has_one in
+        let numbers = each_in (λ (g : NumberedGroup). AreBelow (length words) g.words) groups group (i, below, sym there) inside in
+        unknown_above words links one.0 text within fresh (each_in (λ (m : ℕ). m < length words) group.words one.0 one.1 numbers)
+        (subst (IsAtOrAbove (map (named words) links) text) (sym one.2) s.above_first)

@@ -26,6 +26,17 @@ impl Names {
         }
     }
 
+    /// No words, with room for so many.
+    pub fn with_room(alloc: Global, count: usize) -> Result<Names, NoMemory>
+        ensures numbered { IfOk result (λ names. AreNumbered names.numbers.entries names.words.items) }
+        ensures none { IfOk result (λ names. names.words.items ≡ none) }
+    {
+        Ok(Names {
+            numbers: HashMap::with_capacity(alloc, count)?,
+            words: Vec::with_capacity(alloc, count)?,
+        })
+    }
+
     /// The number of the word, if it has one. It takes no memory.
     pub fn number(&self, word: &[u8]) -> Option<usize>
         requires { AreNumbered self.now.numbers.entries self.now.words.items }

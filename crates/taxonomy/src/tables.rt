@@ -347,7 +347,7 @@ impl Tables {
             return 0;
         }
         let Some(number) = self.names.number(first) else {
-            return 0;
+            return self.groups.len();
         };
         if number >= self.starts.len() {
             return 0;

@@ -55,7 +55,7 @@ fn ordered_names(alloc: Global, forms: &[Located]) -> Result<Names, NoMemory>
 fn names_in_order(alloc: Global, words: &[Text], order: &[usize]) -> Result<Names, NoMemory>
     ensures { IfOk result (λ names. AreNumbered names.numbers.entries names.words.items) }
 {
-    let mut names = Names::new(alloc);
+    let mut names = Names::with_room(alloc, words.len())?;
     for number in order {
         let Some(word) = words.get(*number) else {
             continue;
