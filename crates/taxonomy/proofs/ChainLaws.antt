@@ -1,7 +1,6 @@
 -- Chains of words against paths of numbers.
-use Rattle.std.proofs.Common.{◌≡◌, ◌≢◌, ℕ, suc, zero, ◌<◌, ◌⊎◌, List, [], ◌∷◌, ◌++◌, map, filter, length, get_or, take, drop, Bool, true, false, if◌then◌else◌, refl, sym, ap, subst, ◌∙◌, arith, inl, inr}
+use Rattle.std.proofs.Common.{◌≡◌, ◌≢◌, ℕ, suc, zero, ◌<◌, ◌⊎◌, List, [], ◌∷◌, ◌++◌, map, filter, length, get_or, take, drop, Bool, true, false, if◌then◌else◌, not, refl, sym, ap, subst, ◌∙◌, arith, inl, inr}
 use Rattle.std.specs.Prelude.{Contains, MatchBool, Option, Some, None}
-use Rattle.std.specs.BTreeMap.{BTreeMap}
 use Rattle.std.specs.declared.alloc.Global.{Global}
 use Rattle.std.specs.declared.vec.Vec.{Vec}
 use Rattle.std.specs.Str.{bytes_eq}
@@ -23,9 +22,10 @@ use Rattle.taxonomy.specs.Chains.{Joins, OfKind, IsChain, Chain, later_kind, par
 use Rattle.taxonomy.specs.Disjoint.{Separates, AreNotDisjoint, AreDisjointBy}
 use Rattle.taxonomy.specs.Graph.{Follows, Path}
 use Rattle.taxonomy.specs.Names.{AreNumbered, number_of}
-use Rattle.taxonomy.specs.Numbered.{word, named, named_group, AreBelow, LinksWithin}
+use Rattle.taxonomy.specs.Numbered.{word, named, named_group, AreBelow, LinksWithin, GroupsWithin}
 use Rattle.taxonomy.specs.Runs.{has}
-use Rattle.taxonomy.specs.Tables.{edge_of, AreEdges, AreDistinct, AreSets, Passes, IsOther}
+use Rattle.taxonomy.specs.Starts.{IsShared}
+use Rattle.taxonomy.specs.Tables.{edge_of, AreEdges, HasEdges, AreDistinct, AreSets, AreSelfStarts, Passes, IsOther}
 use Rattle.taxonomy.specs.Told.{Link, DisjointWords}
 use Rattle.taxonomy.proofs.GraphLaws.{each_in, path_none}
 use Rattle.taxonomy.proofs.NameLaws.{contains_word}
@@ -50,7 +50,7 @@ map_in f (y ∷ xs) x (suc k, lt, is) = contains_tail (f y) (map f xs) (f x) (ma
 
 -- ---- distinct words
 
-pub distinct_words : (numbers : BTreeMap (Vec ℕ Global) ℕ) (words : List Bytes) → AreNumbered numbers words → AreDistinct words
+pub distinct_words : (numbers : List (Vec ℕ Global × ℕ)) (words : List Bytes) → AreNumbered numbers words → AreDistinct words
 distinct_words numbers words h = λ n m lt below same.
     let first = h.known n lt in
     let second = h.known m below in
@@ -97,18 +97,18 @@ parents_in (first ∷ links) link text h low = go (bytes_eq first.low text) refl
 path_before : (edges : List Edge) (edge : Edge) (high : ℕ) → Contains edges edge → Path edges edge.high high → Path edges edge.low high
 path_before edges edge high told p = record { path = edge ∷ p.path; among = (told, p.among); follows = (refl, p.follows) }
 
-pub path_of_chain : (words : List Bytes) (links : List NumberedLink) (kind : ChainKind) (edges : List Edge) → AreEdges kind links edges → LinksWithin (length words) links → AreDistinct words
+pub path_of_chain : (words : List Bytes) (links : List NumberedLink) (kind : ChainKind) (edges : List Edge) → HasEdges kind links edges → LinksWithin (length words) links → AreDistinct words
     → (chain : List Link) → Each (λ (link : Link). Contains (map (named words) links) link) chain → OfKind kind chain → (n high : ℕ) → n < length words → high < length words → Joins chain (word words n) (word words high)
     → Path edges n high
-path_of_chain words links kind edges are within distinct [] told of_kind n high lt below joins = subst (Path edges n) (distinct n high lt below joins) (path_none edges n)
-path_of_chain words links kind edges are within distinct (link ∷ chain) told of_kind n high lt below joins =
+path_of_chain words links kind edges all within distinct [] told of_kind n high lt below joins = subst (Path edges n) (distinct n high lt below joins) (path_none edges n)
+path_of_chain words links kind edges all within distinct (link ∷ chain) told of_kind n high lt below joins =
     let found = in_map (named words) links link told.0 in
     let inside = each_in (λ (l : NumberedLink). (l.low < length words) × (l.high < length words)) links found.0 found.1 within in
     let same : found.0.low ≡ n = distinct found.0.low n inside.0 lt (ap (λ (l : Link). l.low) found.2 ∙ joins.0) in
     let kind_is : found.0.kind ≡ kind = ap (λ (l : Link). l.kind) found.2 ∙ of_kind.0 in
-    let edge_in : Contains edges (edge_of found.0) = each_in (λ (l : NumberedLink). l.kind ≡ kind → Contains edges (edge_of l)) links found.0 found.1 are.all kind_is in
+    let edge_in : Contains edges (edge_of found.0) = each_in (λ (l : NumberedLink). l.kind ≡ kind → Contains edges (edge_of l)) links found.0 found.1 all kind_is in
     let later : Path edges found.0.high high =
-    path_of_chain words links kind edges are within distinct chain told.1 of_kind.1 found.0.high high inside.1 below
+    path_of_chain words links kind edges all within distinct chain told.1 of_kind.1 found.0.high high inside.1 below
     (subst (λ (text : Bytes). Joins chain text (word words high)) (sym (ap (λ (l : Link). l.high) found.2)) joins.1)
     in
     subst (λ (k : ℕ). Path edges k high) same (path_before edges (edge_of found.0) high edge_in later)
@@ -145,7 +145,7 @@ reaches_is words links kind sets runs low high text b within distinct s lt is be
         let p = s.closed.sound low high (ap (λ (x : List Run). has x low) (sym at_row) ∙ sym e) in
         chain_of_path words links kind s.edges s.are p.path low high p.among p.follows
     go false e = λ passes.
-        let p = path_of_chain words links kind s.edges s.are within distinct passes.chain passes.told passes.are low high lt below passes.joins in
+        let p = path_of_chain words links kind s.edges s.are.all within distinct passes.chain passes.told passes.are low high lt below passes.joins in
         let no_way : false ≡ true = e ∙ (ap (λ (x : List Run). has x low) at_row ∙ s.closed.complete low high lt p) in
         absurd (cc)
 
@@ -287,3 +287,105 @@ first_disjoint links words groups i group first second lt is none separates = re
   first_of_all = each_over_map (λ (form : DisjointWords). Separates links form first second → ⊥) (named_group words) (take i groups) none;
   at_place = refl;
 }
+
+-- ---- words that are disjoint from themselves
+
+-- a chain is a path of its links' edges
+chain_path : (words : List Bytes) (links : List NumberedLink) (kind : ChainKind) (edges : List Edge) → HasEdges kind links edges → HasEdges (later_kind kind) links edges → LinksWithin (length words) links
+    → AreDistinct words → (n high : ℕ) → n < length words → high < length words → Chain (map (named words) links) kind (word words n) (word words high) → Path edges n high
+chain_path words links kind edges first later within distinct n high lt below c = go c.chain c.told c.is c.joins
+  where
+    go : (chain : List Link) → Each (λ (link : Link). Contains (map (named words) links) link) chain → IsChain kind chain → Joins chain (word words n) (word words high) → Path edges n high
+    go [] told is joins = absurd is
+    go (link ∷ chain) told is joins =
+        let found = in_map (named words) links link told.0 in
+        let inside = each_in (λ (l : NumberedLink). (l.low < length words) × (l.high < length words)) links found.0 found.1 within in
+        let same : found.0.low ≡ n = distinct found.0.low n inside.0 lt (ap (λ (l : Link). l.low) found.2 ∙ joins.0) in
+        let edge_in : Contains edges (edge_of found.0) = each_in (λ (l : NumberedLink). l.kind ≡ kind → Contains edges (edge_of l)) links found.0 found.1 first (ap (λ (l : Link). l.kind) found.2 ∙ is.0) in
+        let rest : Path edges found.0.high high =
+        path_of_chain words links (later_kind kind) edges later within distinct chain told.1 is.1 found.0.high high inside.1 below
+        (subst (λ (text : Bytes). Joins chain text (word words high)) (sym (ap (λ (l : Link). l.high) found.2)) joins.1)
+        in
+        subst (λ (k : ℕ). Path edges k high) same (path_before edges (edge_of found.0) high edge_in rest)
+
+path_above : (words : List Bytes) (links : List NumberedLink) (edges : List Edge) → HasEdges kinds.Class links edges → HasEdges kinds.Instance links edges → LinksWithin (length words) links → AreDistinct words
+    → (n high : ℕ) → n < length words → high < length words → IsAtOrAbove (map (named words) links) (word words n) (word words high) → Path edges n high
+path_above words links edges classes instances within distinct n high lt below (inl same) = subst (Path edges n) (distinct n high lt below same) (path_none edges n)
+path_above words links edges classes instances within distinct n high lt below (inr (inl chain)) = chain_path words links kinds.Class edges classes classes within distinct n high lt below chain
+path_above words links edges classes instances within distinct n high lt below (inr (inr chain)) = chain_path words links kinds.Instance edges instances classes within distinct n high lt below chain
+
+each_of_take : {X : Type 0} (P : X → Type 0) (xs : List X) (many : ℕ) → ((i : ℕ) (x : X) → i < many → i < length xs → x ≡ get_or xs i x → P x) → Each P (take many xs)
+each_of_take P xs zero h = tt
+each_of_take P [] (suc many) h = tt
+each_of_take P (x ∷ xs) (suc many) h =
+    (h 0 x (omega arith) (omega arith) refl, each_of_take P xs many (λ i y less lt is. h (suc i) y (omega (arith, less)) (omega (arith, lt)) is))
+
+-- none of the groups before its start separates a word from itself
+pub none_before : (words : List Bytes) (links : List NumberedLink) (groups : List NumberedGroup) (starts : List ℕ) (n : ℕ) (text : Bytes) → LinksWithin (length words) links → GroupsWithin (length words) groups
+    → AreDistinct words → AreSelfStarts (length words) links groups starts → n < length words → word words n ≡ text
+    → Each (λ (group : NumberedGroup). Separates (map (named words) links) (named_group words group) text text → ⊥) (take (get_or starts n 0) groups)
+none_before words links groups starts n text within inside distinct s lt is =
+    subst (λ (t : Bytes). Each (λ (group : NumberedGroup). Separates (map (named words) links) (named_group words group) t t → ⊥) (take (get_or starts n 0) groups)) is
+    (each_of_take (λ (group : NumberedGroup). Separates (map (named words) links) (named_group words group) (word words n) (word words n) → ⊥) groups (get_or starts n 0) no_group)
+  where
+    no_group : (i : ℕ) (group : NumberedGroup) → i < get_or starts n 0 → i < length groups → group ≡ get_or groups i group → Separates (map (named words) links) (named_group words group) (word words n) (word words n) → ⊥
+    no_group i group before below there separates = absurd (omega (arith, before, s.starts n i group below below there shared))
+      where
+        one : (k : ℕ) × Contains group.words k × (word words k ≡ separates.one)
+        one = in_map (word words) group.words separates.one separates.has_one
+
+        other : (k : ℕ) × Contains group.words k × (word words k ≡ separates.other)
+        other = in_map (word words) group.words separates.other separates.has_other
+
+        numbers : AreBelow (length words) group.words
+        numbers = each_in (λ (g : NumberedGroup). AreBelow (length words) g.words) groups group (i, below, sym there) inside
+
+        path : (k : ℕ) (above : Bytes) → Contains group.words k → word words k ≡ above → IsAtOrAbove (map (named words) links) (word words n) above → has (get_or s.sets k []) n ≡ true
+        path k above among same h =
+            s.closed.complete n k lt
+            (path_above words links s.edges s.classes s.instances within distinct n k lt (each_in (λ (m : ℕ). m < length words) group.words k among numbers)
+            (subst (IsAtOrAbove (map (named words) links) (word words n)) (sym same) h))
+
+        shared : IsShared s.sets group.words n
+        shared = record {
+          one = one.0;
+          other = other.0;
+          has_one = one.1;
+          has_other = other.1;
+          apart = λ e. separates.apart (sym one.2 ∙ (ap (word words) e ∙ other.2));
+          in_one = path one.0 separates.one one.1 one.2 separates.above_first;
+          in_other = path other.0 separates.other other.1 other.2 separates.above_second;
+        }
+
+pub same_bytes : (xs ys : Bytes) → false ≡ not (bytes_eq xs ys) → xs ≡ ys
+same_bytes xs ys e = go (bytes_eq xs ys) refl e
+  where
+    go : (b : Bool) → bytes_eq xs ys ≡ b → false ≡ not b → xs ≡ ys
+    go true test e = (bytes_eq-Decides xs ys).0 test
+    go false test e = absurd (cc)
+
+-- nothing is at or above a word that has no number, but the word itself
+unknown_above : (words : List Bytes) (links : List NumberedLink) (n : ℕ) (text : Bytes) → LinksWithin (length words) links → (Contains words text → ⊥) → n < length words
+    → IsAtOrAbove (map (named words) links) text (word words n) → ⊥
+unknown_above words links n text within fresh lt above = cases above
+  where
+    none : (kind : ChainKind) (chain : List Link) → Each (λ (link : Link). Contains (map (named words) links) link) chain → IsChain kind chain → Joins chain text (word words n) → ⊥
+    none kind [] told is joins = is
+    none kind (link ∷ chain) told is joins = fresh (subst (Contains words) joins.0 (low_among words links link within told.0).0)
+
+    cases : IsAtOrAbove (map (named words) links) text (word words n) → ⊥
+    cases (inl same) = fresh (contains_word words n text lt (sym same))
+    cases (inr (inl c)) = none kinds.Class c.chain c.told c.is c.joins
+    cases (inr (inr c)) = none kinds.Instance c.chain c.told c.is c.joins
+
+pub none_unknown : (words : List Bytes) (links : List NumberedLink) (groups : List NumberedGroup) (many : ℕ) (text : Bytes) → LinksWithin (length words) links → GroupsWithin (length words) groups
+    → (Contains words text → ⊥) → Each (λ (group : NumberedGroup). Separates (map (named words) links) (named_group words group) text text → ⊥) (take many groups)
+none_unknown words links groups many text within inside fresh =
+    each_of_take (λ (group : NumberedGroup). Separates (map (named words) links) (named_group words group) text text → ⊥) groups many no_group
+  where
+    no_group : (i : ℕ) (group : NumberedGroup) → i < many → i < length groups → group ≡ get_or groups i group → Separates (map (named words) links) (named_group words group) text text → ⊥
+    no_group i group before below there s =
+        let one = in_map (word words) group.words s.one s.has_one in
+        let numbers = each_in (λ (g : NumberedGroup). AreBelow (length words) g.words) groups group (i, below, sym there) inside in
+        unknown_above words links one.0 text within fresh (each_in (λ (m : ℕ). m < length words) group.words one.0 one.1 numbers)
+        (subst (IsAtOrAbove (map (named words) links) text) (sym one.2) s.above_first)

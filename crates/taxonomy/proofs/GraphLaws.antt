@@ -131,7 +131,7 @@ stays_by edge old known more low high is_known is_more all =
       passed = λ n h. subst (λ (x : List Run). has x n ≡ true) known_is (all n (subst (λ (x : List Run). has x n ≡ true) (sym more_is) h));
     }
 
-or_cases : (x y : Bool) → (x || y) ≡ true → (x ≡ true) ⊎ (y ≡ true)
+pub or_cases : (x y : Bool) → (x || y) ≡ true → (x ≡ true) ⊎ (y ≡ true)
 or_cases true y h = inl refl
 or_cases false y h = inr h
 

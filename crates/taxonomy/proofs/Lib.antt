@@ -4,3 +4,4 @@ pub mod FormLaws
 pub mod NumberedLaws
 pub mod TableLaws
 pub mod ChainLaws
+pub mod StartLaws

@@ -3,7 +3,7 @@ use Rattle.std.proofs.Common.{◌≡◌, ℕ, suc, ◌+◌, ◌<◌, ◌⊎◌, 
 use Rattle.std.specs.Prelude.{Contains, slice_set}
 use Rattle.std.specs.Str.{bytes_eq}
 use Rattle.std.proofs.lemmas.List.{take_more, length-set, map-append}
-use Rattle.std.proofs.lemmas.List.Elements.{Contains-append_left, Contains-push}
+use Rattle.std.proofs.lemmas.List.Elements.{Contains-append_left, Contains-append_right, Contains-push}
 use Rattle.std.specs.List.Sorted.{IsPermutation}
 use Rattle.std.proofs.lemmas.List.Sorted.{Contains-permutation, IsPermutation-sym}
 use Rattle.std.proofs.lemmas.Slice.Eq.{bytes_eq-Decides}
@@ -17,7 +17,7 @@ use Rattle.taxonomy.specs.declared.told.Told.{Told}
 use Rattle.taxonomy.specs.Chains.{parents, as_told}
 use Rattle.taxonomy.specs.Graph.{AreWithin}
 use Rattle.taxonomy.specs.Numbered.{word, named, LinksWithin}
-use Rattle.taxonomy.specs.Tables.{edge_of, AreEdges, AreDistinct, AreRows}
+use Rattle.taxonomy.specs.Tables.{edge_of, AreEdges, HasEdges, AreDistinct, AreRows}
 use Rattle.taxonomy.specs.Told.{Link}
 use Rattle.taxonomy.proofs.GraphLaws.{set_cases, each_in, contains_at}
 
@@ -135,3 +135,21 @@ edges_sorted kind links edges sorted same h = record {
   all = each_map (λ (link : NumberedLink). link.kind ≡ kind → Contains edges (edge_of link)) (λ (link : NumberedLink). link.kind ≡ kind → Contains sorted (edge_of link))
       (λ link w e. Contains-permutation edges sorted (edge_of link) same (w e)) links h.all;
 }
+
+-- the edges of two kinds together, in some order
+pub joined_first : (kind : ChainKind) (links : List NumberedLink) (edges more joined sorted : List Edge) → joined ≡ edges ++ more → IsPermutation joined sorted → AreEdges kind links edges → HasEdges kind links sorted
+joined_first kind links edges more joined sorted is same h =
+    each_map (λ (link : NumberedLink). link.kind ≡ kind → Contains edges (edge_of link)) (λ (link : NumberedLink). link.kind ≡ kind → Contains sorted (edge_of link))
+    (λ link w e. Contains-permutation joined sorted (edge_of link) same (subst (λ (xs : List Edge). Contains xs (edge_of link)) (sym is) (Contains-append_left edges more (edge_of link) (w e)))) links h.all
+
+pub joined_second : (kind : ChainKind) (links : List NumberedLink) (edges more joined sorted : List Edge) → joined ≡ edges ++ more → IsPermutation joined sorted → AreEdges kind links more → HasEdges kind links sorted
+joined_second kind links edges more joined sorted is same h =
+    each_map (λ (link : NumberedLink). link.kind ≡ kind → Contains more (edge_of link)) (λ (link : NumberedLink). link.kind ≡ kind → Contains sorted (edge_of link))
+    (λ link w e. Contains-permutation joined sorted (edge_of link) same (subst (λ (xs : List Edge). Contains xs (edge_of link)) (sym is) (Contains-append_right edges more (edge_of link) (w e)))) links h.all
+
+pub joined_within : (count : ℕ) (edges more joined sorted : List Edge) → joined ≡ edges ++ more → IsPermutation joined sorted → AreWithin count edges → AreWithin count more → AreWithin count sorted
+joined_within count edges more joined sorted is same h k =
+    each_of_members (λ (edge : Edge). (edge.low < count) × (edge.high < count)) sorted
+    (λ edge among. each_in (λ (e : Edge). (e.low < count) × (e.high < count)) (edges ++ more) edge
+    (subst (λ (xs : List Edge). Contains xs edge) is (Contains-permutation sorted joined edge (IsPermutation-sym joined sorted same) among))
+    (each_append (λ (e : Edge). (e.low < count) × (e.high < count)) edges more h k))

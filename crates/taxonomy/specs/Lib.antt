@@ -6,5 +6,6 @@ pub mod Graph
 pub mod Names
 pub mod Forms
 pub mod Numbered
+pub mod Starts
 pub mod Tables
 pub mod Laws

@@ -1,8 +1,7 @@
 -- Words and their numbers.
 use Rattle.std.specs.Prelude.{◌≡◌, ℕ, ◌<◌, List, [], ◌++◌, length, get_or, Option, Some}
-use Rattle.std.specs.BTreeMap.{BTreeMap, get_by}
-use Rattle.std.specs.Cmp.Lexicographic.{slice_cmp}
-use Rattle.std.specs.Ordering.{nat_cmp}
+use Rattle.std.specs.Map.{lookup}
+use Rattle.std.specs.Str.{bytes_eq}
 use Rattle.std.specs.declared.alloc.Global.{Global}
 use Rattle.std.specs.declared.vec.Vec.{Vec}
 use Rattle.kif_tree.specs.Terms.{Bytes}
@@ -11,11 +10,11 @@ abbrev pub none : List Bytes
 none = []
 
 -- the number that the table has for the word
-abbrev pub number_of : BTreeMap (Vec ℕ Global) ℕ → Bytes → Option ℕ
-number_of numbers word = get_by (λ (key : Vec ℕ Global). slice_cmp nat_cmp word key.items) numbers
+abbrev pub number_of : List (Vec ℕ Global × ℕ) → Bytes → Option ℕ
+number_of numbers word = lookup (λ (key : Vec ℕ Global). bytes_eq word key.items) numbers
 
 -- the table has for each word its place in the list, and for nothing else a number
-pub record AreNumbered (numbers : BTreeMap (Vec ℕ Global) ℕ) (words : List Bytes) : Type 0 where
+pub record AreNumbered (numbers : List (Vec ℕ Global × ℕ)) (words : List Bytes) : Type 0 where
   pub found : (word : Bytes) (number : ℕ) → number_of numbers word ≡ Some number → (number < length words) × (get_or words number [] ≡ word)
   pub known : (number : ℕ) → number < length words → number_of numbers (get_or words number []) ≡ Some number
 

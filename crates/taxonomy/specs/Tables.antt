@@ -1,5 +1,5 @@
 -- What a taxonomy keeps of told forms, and how it shows them.
-use Rattle.std.specs.Prelude.{◌≡◌, ◌≢◌, ℕ, ◌<◌, List, [], map, length, get_or, Bool, MatchBool, Contains, Option, Some, None}
+use Rattle.std.specs.Prelude.{◌≡◌, ◌≢◌, ℕ, ◌<◌, List, [], map, take, length, get_or, Bool, MatchBool, Contains, Option, Some, None}
 use Rattle.kif_tree.specs.Terms.{Bytes}
 use Rattle.sigma_base.specs.Lists.{Each}
 use Rattle.taxonomy.specs.declared.closure.Edge.{Edge}
@@ -11,9 +11,11 @@ use Rattle.taxonomy.specs.declared.told.ChainKind.{ChainKind}
 use Rattle.taxonomy.specs.declared.told.ChainKind.TheVariants as kinds
 use Rattle.taxonomy.specs.declared.told.Told.{Told}
 use Rattle.taxonomy.specs.Chains.{parents, OfKind, Joins, IsAtOrAbove}
-use Rattle.taxonomy.specs.Graph.{IsClosure}
+use Rattle.taxonomy.specs.Disjoint.{Separates}
+use Rattle.taxonomy.specs.Graph.{IsClosure, Sets}
 use Rattle.taxonomy.specs.Names.{AreNumbered}
 use Rattle.taxonomy.specs.Numbered.{word, named, named_group, LinksWithin, GroupsWithin}
+use Rattle.taxonomy.specs.Starts.{AreStarts}
 use Rattle.taxonomy.specs.Told.{Link, ToldTaxonomy}
 
 -- the answer is whether P holds
@@ -66,14 +68,28 @@ pub record AreSets (kind : ChainKind) (count : ℕ) (links : List NumberedLink) 
   pub are : AreEdges kind links edges
   pub closed : IsClosure edges count sets
 
+-- the links of a kind are among the edges
+abbrev pub HasEdges : ChainKind → List NumberedLink → List Edge → Type 0
+HasEdges kind links edges = Each (λ (link : NumberedLink). link.kind ≡ kind → Contains edges (edge_of link)) links
+
+-- sets that have what is at or above a word, and maybe more, and where the groups start that two of them share
+pub record AreSelfStarts (count : ℕ) (links : List NumberedLink) (groups : List NumberedGroup) (found : List ℕ) : Type 0 where
+  pub edges : List Edge
+  pub classes : HasEdges kinds.Class links edges
+  pub instances : HasEdges kinds.Instance links edges
+  pub sets : Sets
+  pub closed : IsClosure edges count sets
+  pub starts : AreStarts sets groups (length groups) found
+
 -- what the tables hold goes together
 pub record AreTables (tables : Tables) : Type 0 where
-  pub numbered : AreNumbered tables.names.numbers tables.names.words.items
+  pub numbered : AreNumbered tables.names.numbers.entries tables.names.words.items
   pub links : LinksWithin (length tables.names.words.items) tables.links.items
   pub groups : GroupsWithin (length tables.names.words.items) tables.groups.items
   pub rows : AreRows tables.names.words.items tables.links.items tables.rows.items
   pub classes : AreSets kinds.Class (length tables.names.words.items) tables.links.items tables.classes.items
   pub relations : AreSets kinds.Relation (length tables.names.words.items) tables.links.items tables.relations.items
+  pub starts : AreSelfStarts (length tables.names.words.items) tables.links.items tables.groups.items tables.starts.items
 
 -- a number other than the one that is left out
 abbrev pub IsOther : Option ℕ → ℕ → Type 0
@@ -86,3 +102,8 @@ IsFound tables group text but number = Contains group number × IsOther but numb
 
 abbrev pub NoneIsFound : Tables → List ℕ → Bytes → Option ℕ → Type 0
 NoneIsFound tables group text but = Each (λ (number : ℕ). IsOther but number → IsAtOrAbove (shown tables).links text (word_at tables number) → ⊥) group
+
+-- none of so many first groups separates the words
+abbrev pub NoneSeparates : Tables → ℕ → Bytes → Bytes → Type 0
+NoneSeparates tables many first second =
+    Each (λ (group : NumberedGroup). Separates (shown tables).links (named_group tables.names.words.items group) first second → ⊥) (take many tables.groups.items)

@@ -17,14 +17,14 @@ pub struct Edge {
 fn singletons(alloc: Global, count: usize) -> Result<Vec<Runs>, NoMemory>
     ensures { IfOk result (λ sets. spec.AreSingletons count sets.items) }
 {
-    let mut sets = Vec::new(alloc);
+    let mut sets = Vec::with_capacity(alloc, count)?;
     for number in 0..count {
-        let mut set = Listed::new(alloc);
+        let mut set = Vec::with_capacity(alloc, 1)?;
         set.push(Run {
             start: number,
             end: number + 1,
         })?;
-        sets.push(set)?;
+        sets.push(Listed::of(set))?;
     }
     Ok(sets)
 }

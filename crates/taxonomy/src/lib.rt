@@ -8,6 +8,7 @@ mod names;
 mod numbered;
 mod order;
 mod runs;
+mod starts;
 mod tables;
 mod taxonomy;
 #[cfg(test)]

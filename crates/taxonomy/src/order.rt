@@ -102,11 +102,7 @@ fn starts(alloc: Global, count: usize, edges: &[Edge]) -> Result<Vec<bool>, NoMe
 }
 
 /// The numbers below the count, each behind those below it where no cycle forbids it.
-pub(crate) fn lowest_first(
-    alloc: Global,
-    count: usize,
-    edges: &[Edge],
-) -> Result<Vec<usize>, NoMemory> {
+fn searched(alloc: Global, count: usize, edges: &[Edge]) -> Result<Vec<usize>, NoMemory> {
     let starts = starts(alloc, count, edges)?;
     let mut search = Search::new(alloc, count, edges)?;
     let mut number: usize = 0;
@@ -121,5 +117,71 @@ pub(crate) fn lowest_first(
         search.visit(edges, number)?;
     }
     let Search { order, .. } = search;
+    Ok(order)
+}
+
+/// Whether one of the edges joins the number to another, for each number below the count.
+fn joined(alloc: Global, count: usize, edges: &[Edge]) -> Result<Vec<bool>, NoMemory> {
+    let mut joined = starts(alloc, count, edges)?;
+    for edge in edges {
+        if let Some(end) = joined.get_mut(edge.high) {
+            *end = true;
+        }
+    }
+    Ok(joined)
+}
+
+/// The edges, and those of the instances that none of them joins to another number.
+fn with_leaves(
+    alloc: Global,
+    joined: &[bool],
+    edges: &[Edge],
+    instances: &[Edge],
+) -> Result<Vec<Edge>, NoMemory> {
+    let mut all = Vec::from_slice(alloc, edges)?;
+    for edge in instances {
+        if !is_set(joined, edge.low) {
+            all.push(*edge)?;
+        }
+    }
+    Ok(all)
+}
+
+fn is_set(flags: &[bool], number: usize) -> bool {
+    match flags.get(number) {
+        Some(flag) => *flag,
+        None => false,
+    }
+}
+
+/// The numbers of the order for which the flag is as asked.
+fn append_where(
+    order: &mut Vec<usize>,
+    numbers: &[usize],
+    flags: &[bool],
+    wanted: bool,
+) -> Result<(), NoMemory> {
+    for number in numbers {
+        if is_set(flags, *number) == wanted {
+            order.push(*number)?;
+        }
+    }
+    Ok(())
+}
+
+/// The numbers below the count, each behind those below it where no cycle forbids it. Those that are instances alone come first, so
+/// that they part no runs of the others.
+pub(crate) fn lowest_first(
+    alloc: Global,
+    count: usize,
+    edges: &[Edge],
+    instances: &[Edge],
+) -> Result<Vec<usize>, NoMemory> {
+    let joined = joined(alloc, count, edges)?;
+    let all = with_leaves(alloc, joined.as_slice(), edges, instances)?;
+    let numbers = searched(alloc, count, all.as_slice())?;
+    let mut order = Vec::new(alloc);
+    append_where(&mut order, numbers.as_slice(), joined.as_slice(), false)?;
+    append_where(&mut order, numbers.as_slice(), joined.as_slice(), true)?;
     Ok(order)
 }

@@ -2,14 +2,17 @@
 ghost use Rattle.std.specs.Prelude.{◌≡◌, ◌<◌, ◌≤◌, ◌++◌, ◌∷◌, [], length, get_or, slice_set, IfOk, OnOk, MatchOption};
 ghost use Rattle.taxonomy.specs.Chains as chains;
 ghost use Rattle.taxonomy.specs.Disjoint as disjoint;
+ghost use Rattle.taxonomy.specs.Graph.{AreWithin};
 ghost use Rattle.taxonomy.specs.Names.{AreNumbered};
 ghost use Rattle.taxonomy.specs.Numbered as numbered;
 ghost use Rattle.taxonomy.specs.Tables as spec;
+ghost use Rattle.taxonomy.specs.declared.told.ChainKind.TheVariants as kinds;
 
 use crate::closure::{Edge, closure};
 use crate::names::Names;
 use crate::numbered::{NumberedGroup, NumberedLink};
 use crate::runs::{Runs, has};
+use crate::starts::starts_of;
 use crate::told::{ChainKind, Told};
 use kif_tree::{Place, Text};
 use sigma_base::{Listed, NoMemory};
@@ -27,6 +30,8 @@ pub struct Tables {
     pub classes: Vec<Runs>,
     /// The same with `subrelation`.
     pub relations: Vec<Runs>,
+    /// For each word a number of groups, none of which separates it from itself.
+    pub starts: Vec<usize>,
 }
 
 /// Whether the kinds are the same.
@@ -135,6 +140,37 @@ fn sets_of(
     Ok(sets)
 }
 
+/// The links that lead to words at or above others, as edges.
+fn upward_edges(alloc: Global, count: usize, links: &[NumberedLink]) -> Result<Vec<Edge>, NoMemory>
+    requires { numbered.LinksWithin count links.now }
+    ensures within { IfOk result (λ edges. AreWithin count edges.items) }
+    ensures classes { IfOk result (λ edges. spec.HasEdges kinds.Class links.now edges.items) }
+    ensures instances { IfOk result (λ edges. spec.HasEdges kinds.Instance links.now edges.items) }
+{
+    let mut edges = edges_of(alloc, links, ChainKind::Class)?;
+    let instances = edges_of(alloc, links, ChainKind::Instance)?;
+    edges.extend_from_slice(instances.as_slice())?;
+    edges.sort()?;
+    Ok(edges)
+}
+
+/// For each word how many groups may be left out where it is asked whether the word is disjoint from itself.
+fn self_starts(
+    alloc: Global,
+    count: usize,
+    links: &[NumberedLink],
+    groups: &[NumberedGroup],
+) -> Result<Vec<usize>, NoMemory>
+    requires links { numbered.LinksWithin count links.now }
+    requires groups { numbered.GroupsWithin count groups.now }
+    ensures { IfOk result (λ starts. spec.AreSelfStarts count links.now groups.now starts.items) }
+{
+    let edges = upward_edges(alloc, count, links)?;
+    let sets = closure(alloc, count, edges.as_slice())?;
+    let starts = starts_of(alloc, count, sets.as_slice(), groups)?;
+    Ok(starts)
+}
+
 /// The tables of the links and groups.
 pub fn tables_of(
     alloc: Global,
@@ -142,7 +178,7 @@ pub fn tables_of(
     links: Vec<NumberedLink>,
     groups: Vec<NumberedGroup>,
 ) -> Result<Tables, NoMemory>
-    requires names { AreNumbered names.numbers names.words.items }
+    requires names { AreNumbered names.numbers.entries names.words.items }
     requires links { numbered.LinksWithin (length names.words.items) links.items }
     requires groups { numbered.GroupsWithin (length names.words.items) groups.items }
     ensures tables { IfOk result (λ tables. spec.AreTables tables) }
@@ -156,6 +192,12 @@ pub fn tables_of(
         links.as_slice(),
         ChainKind::Relation,
     )?;
+    let starts = self_starts(
+        alloc,
+        names.words.len(),
+        links.as_slice(),
+        groups.as_slice(),
+    )?;
     Ok(Tables {
         names,
         links,
@@ -163,6 +205,7 @@ pub fn tables_of(
         rows,
         classes,
         relations,
+        starts,
     })
 }
 
@@ -295,15 +338,35 @@ impl Tables {
         false
     }
 
+    /// How many groups may be left out for the two words.
+    fn start(&self, first: &[u8], second: &[u8]) -> usize
+        requires { spec.AreTables self.now }
+        ensures { spec.NoneSeparates self.now result first.now second.now }
+    {
+        if first != second {
+            return 0;
+        }
+        let Some(number) = self.names.number(first) else {
+            return self.groups.len();
+        };
+        if number >= self.starts.len() {
+            return 0;
+        }
+        self.starts[number]
+    }
+
     /// The place of the first group that separates the two words.
     pub fn are_disjoint(&self, first: &[u8], second: &[u8]) -> Option<Place>
         requires { spec.AreTables self.now }
         ensures { MatchOption result (disjoint.AreNotDisjoint (spec.shown self.now) first.now second.now) (λ place. disjoint.AreDisjointBy (spec.shown self.now) first.now second.now place) }
     {
-        for group in self.groups.as_slice() {
+        let mut at = self.start(first, second);
+        while at < self.groups.len() {
+            let group = &self.groups[at];
             if self.separates(group, first, second) {
                 return Some(group.place);
             }
+            at += 1;
         }
         None
     }

@@ -32,24 +32,30 @@ impl Model for Taxonomy {
     ghost invariant = { λ taxonomy. AreTables taxonomy.tables };
 }
 
-/// The words of the chains' links, each behind those below it where no cycle forbids it.
+/// The words of the links, each behind those below it where no cycle forbids it. Those that are instances alone come before all others.
 fn ordered_names(alloc: Global, forms: &[Located]) -> Result<Names, NoMemory>
-    ensures { IfOk result (λ names. AreNumbered names.numbers names.words.items) }
+    ensures { IfOk result (λ names. AreNumbered names.numbers.entries names.words.items) }
 {
     let mut names = Names::new(alloc);
     let links = numbered_links(alloc, &mut names, forms)?;
     let mut edges = edges_of(alloc, links.as_slice(), ChainKind::Class)?;
     let relations = edges_of(alloc, links.as_slice(), ChainKind::Relation)?;
     edges.extend_from_slice(relations.as_slice())?;
-    let order = lowest_first(alloc, names.words.len(), edges.as_slice())?;
+    let instances = edges_of(alloc, links.as_slice(), ChainKind::Instance)?;
+    let order = lowest_first(
+        alloc,
+        names.words.len(),
+        edges.as_slice(),
+        instances.as_slice(),
+    )?;
     names_in_order(alloc, names.words.as_slice(), order.as_slice())
 }
 
 /// The words of these numbers, numbered anew in this order.
 fn names_in_order(alloc: Global, words: &[Text], order: &[usize]) -> Result<Names, NoMemory>
-    ensures { IfOk result (λ names. AreNumbered names.numbers names.words.items) }
+    ensures { IfOk result (λ names. AreNumbered names.numbers.entries names.words.items) }
 {
-    let mut names = Names::new(alloc);
+    let mut names = Names::with_room(alloc, words.len())?;
     for number in order {
         let Some(word) = words.get(*number) else {
             continue;

@@ -183,3 +183,60 @@ fn the_first_told_form_separates(rt: HostRuntime) -> Result<(), Fail> {
     }
     Ok(())
 }
+
+// ---- words that are disjoint from themselves
+
+const LISTED: &[u8] = b"disjoint A B;subclass A B;instance a A;subclass C A";
+
+const TWO_CLASSES: &[u8] = b"instance i A;instance i B;partition W A B C;instance j A";
+
+const LISTED_INSTANCE: &[u8] = b"instance i A;disjoint i A;instance j i";
+
+const ROUND: &[u8] = b"subclass A B;subclass B A;disjoint B C;disjoint A B;instance a B";
+
+const TWICE: &[u8] = b"disjoint A A;partition W A A;subclass B A;instance b B";
+
+const SECOND: &[u8] =
+    b"disjoint A C;disjoint A B;subclass D A;subclass D B;instance d D;disjointDecomposition W B A";
+
+const STEPS: &[u8] = b"instance i A;instance A B;disjoint A B;subrelation r s;disjoint r s";
+
+#[test]
+fn words_below_two_listed_words_are_disjoint_from_themselves(rt: HostRuntime) -> Result<(), Fail> {
+    let table: [(&[u8], &[u8], Option<u32>); 29] = [
+        (LISTED, b"A", Some(1)),
+        (LISTED, b"B", None),
+        (LISTED, b"a", Some(1)),
+        (LISTED, b"C", Some(1)),
+        (TWO_CLASSES, b"i", Some(3)),
+        (TWO_CLASSES, b"j", None),
+        (TWO_CLASSES, b"A", None),
+        (TWO_CLASSES, b"W", None),
+        (LISTED_INSTANCE, b"i", Some(2)),
+        (LISTED_INSTANCE, b"A", None),
+        (LISTED_INSTANCE, b"j", None),
+        (ROUND, b"A", Some(4)),
+        (ROUND, b"B", Some(4)),
+        (ROUND, b"a", Some(4)),
+        (ROUND, b"C", None),
+        (TWICE, b"A", None),
+        (TWICE, b"B", None),
+        (TWICE, b"b", None),
+        (SECOND, b"D", Some(2)),
+        (SECOND, b"d", Some(2)),
+        (SECOND, b"A", None),
+        (SECOND, b"B", None),
+        (STEPS, b"i", None),
+        (STEPS, b"A", Some(3)),
+        (STEPS, b"B", None),
+        (STEPS, b"r", None),
+        (STEPS, b"s", None),
+        (STEPS, b"Z", None),
+        (b"p A B", b"A", None),
+    ];
+    for (text, word, want) in &table {
+        let told = taxonomy(rt.alloc(), text)?;
+        assert_eq!(rt; told.are_disjoint(word, word), want.map(place));
+    }
+    Ok(())
+}

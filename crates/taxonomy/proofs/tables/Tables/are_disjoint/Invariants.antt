@@ -1,7 +1,9 @@
-use Rattle.std.proofs.Common.{take}
-use Rattle.taxonomy.specs.Tables.{shown}
-use Rattle.taxonomy.proofs.ChainLaws.{NoneSeparates}
+use Rattle.std.proofs.Common.{◌-◌, length}
+use Rattle.taxonomy.specs.Tables.{NoneSeparates}
 use Rattle.taxonomy.proofs.tables.Tables.are_disjoint.Given as goal
 
-abbrev pub invariant-loop-group : goal.invariant-loop-group
-invariant-loop-group l = NoneSeparates (shown l.self).links l.self.names.words.items (take l.group-index l.group-items) l.first l.second
+abbrev pub invariant-loop-at : goal.invariant-loop-at
+invariant-loop-at l = NoneSeparates l.self l.at l.first l.second
+
+abbrev pub decreases-loop-at : goal.decreases-loop-at
+decreases-loop-at l = length l.self.groups.items - l.at

@@ -12,5 +12,5 @@ returns-in_default c =
 pub returns : goal.returns
 returns c =
     reaches_is c.args.self.now.names.words.items c.args.self.now.links.items (later_kind c.args.kind) c.sets-sets.result.now c.index-sets-high.result c.in-Some.low c.args.high c.args.word.now c.has.result
-    c.requires.tables.links (distinct_words c.args.self.now.names.numbers c.args.self.now.names.words.items c.requires.tables.numbered) c.sets-sets.ensures c.in-Some.ensures.0 c.in-Some.ensures.1 c.requires.high c.index-sets-high.is
+    c.requires.tables.links (distinct_words c.args.self.now.names.numbers.entries c.args.self.now.names.words.items c.requires.tables.numbered) c.sets-sets.ensures c.in-Some.ensures.0 c.in-Some.ensures.1 c.requires.high c.index-sets-high.is
     (c.has.ensures ∙ ap (λ (runs : List Run). has runs c.in-Some.low) c.items.ensures)
