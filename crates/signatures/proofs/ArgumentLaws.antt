@@ -1,7 +1,7 @@
 -- Tables of types, one for each number of an argument.
-use Rattle.std.proofs.Common.{◌≡◌, ℕ, suc, zero, ◌+◌, ◌<◌, ◌≤◌, ◌||◌, ◌&&◌, List, [], ◌∷◌, ◌++◌, length, get_or, take, Bool, true, false, refl, sym, ap, subst, ◌∙◌, arith, inl, inr, codes, if◌then◌else◌, nat_eq}
+use Rattle.std.proofs.Common.{◌≡◌, ℕ, suc, zero, ◌+◌, ◌<◌, ◌≤◌, ◌||◌, ◌&&◌, List, [], ◌∷◌, length, get_or, take, Bool, true, false, refl, sym, ap, subst, ◌∙◌, arith, inr, codes, if◌then◌else◌, nat_eq}
 use Rattle.std.specs.Prelude.{Option, Some, None, unwrap_or}
-use Rattle.std.specs.List.{filter_map, cons_option, list_any}
+use Rattle.std.specs.List.{filter_map, cons_option}
 use Rattle.std.specs.Str.{bytes_eq}
 use Rattle.std.proofs.lemmas.List.{take_all}
 use Rattle.std.proofs.lemmas.Bool.Decides.{nat_tests}
@@ -15,7 +15,7 @@ use Rattle.signatures.specs.declared.signatures.ArgumentTypes.{ArgumentTypes}
 use Rattle.signatures.specs.ArgumentTables.{has_number, IsTable, IsThere, AddsNumber, AreTables}
 use Rattle.signatures.specs.Inherited.{value_in}
 use Rattle.signatures.specs.Tables.{types_at}
-use Rattle.signatures.specs.Types.{type_told, tells_subclass, type_in, own_types, HasTypes, AreTypes}
+use Rattle.signatures.specs.Types.{type_told, tells_subclass, type_in, own_types, AreTypes}
 use Rattle.signatures.proofs.TypeLaws.{are_types}
 
 same_number : (n : ℕ) → nat_eq n n ≡ true

@@ -2,7 +2,7 @@
 use Rattle.std.proofs.Common.{◌≡◌, ℕ, suc, zero, ◌+◌, ◌<◌, ◌≤◌, ◌⊎◌, ◌||◌, ◌&&◌, List, [], ◌∷◌, ◌++◌, length, get_or, take, map, filter, Bool, true, false, not, if◌then◌else◌, Bor, refl, sym, ap, subst, ◌∙◌, arith, inl, inr}
 use Rattle.std.specs.Prelude.{◌==◌, Contains, Option, Some, None, is_some, MatchOption}
 use Rattle.std.specs.Option.{option_map}
-use Rattle.std.specs.BTreeMap.{BTreeMap}
+use Rattle.std.specs.HashMap.{HashMap}
 use Rattle.std.specs.Cmp.Lexicographic.{slice_cmp, nat_list_cmp_total}
 use Rattle.std.specs.Ordering.{nat_cmp, is_lt, ordering_reverse}
 use Rattle.std.specs.declared.cmp.Ordering.{Ordering}
@@ -453,14 +453,14 @@ layer_more links seen next words i word lt is =
 
 -- ---- the first word that has a value
 
-has_by : {V : Type 0} (own : BTreeMap Key V) (word : Bytes) (b : Bool) → b ≡ is_some (find own word) → b ≡ true → Has own word
+has_by : {V S : Type 0} (own : HashMap Key V S) (word : Bytes) (b : Bool) → b ≡ is_some (find own word) → b ≡ true → Has own word
 has_by {V = V} own word b is h = go (find own word) refl (sym is ∙ h)
   where
     go : (found : Option V) → find own word ≡ found → is_some found ≡ true → Has own word
     go (Some value) e k = (value, e)
     go None e k = absurd (cc)
 
-has_not : {V : Type 0} (own : BTreeMap Key V) (word : Bytes) (b : Bool) → b ≡ is_some (find own word) → b ≡ false → Has own word → ⊥
+has_not : {V S : Type 0} (own : HashMap Key V S) (word : Bytes) (b : Bool) → b ≡ is_some (find own word) → b ≡ false → Has own word → ⊥
 has_not own word b is h (value, e) = let k : is_some (find own word) ≡ true = ap is_some e in absurd (true_false (is_some (find own word)) k (sym is ∙ h))
 
 order_of : (a b : Bytes) → is_lt (slice_cmp nat_cmp a b) ≡ false → (b ≡ a) ⊎ IsBefore b a
@@ -531,31 +531,31 @@ earlier_more Has words word first h early has_word = record {
 abbrev word_more : (words : List Bytes) (i : ℕ) (word : Bytes) → i < length words → word ≡ get_or words i word → take (i + 1) words ≡ take i words ++ word ∷ []
 word_more words i word lt is = take_more words i word lt ∙ ap (λ (w : Bytes). take i words ++ w ∷ []) (sym is)
 
-pub first_without : {V : Type 0} (own : BTreeMap Key V) (words : List Bytes) (i : ℕ) (word : Bytes) (first : Option (Bor Bytes)) (b : Bool) → i < length words → word ≡ get_or words i word → First (Has own) (take i words) first
+pub first_without : {V S : Type 0} (own : HashMap Key V S) (words : List Bytes) (i : ℕ) (word : Bytes) (first : Option (Bor Bytes)) (b : Bool) → i < length words → word ≡ get_or words i word → First (Has own) (take i words) first
     → b ≡ is_some (find own word) → b ≡ false → First (Has own) (take (i + 1) words) first
 first_without own words i word first b lt is h found none =
     subst (λ (ws : List Bytes). First (Has own) ws first) (sym (word_more words i word lt is)) (without_more (Has own) (take i words) word first h (has_not own word b found none))
 
-pub first_later : {V : Type 0} (own : BTreeMap Key V) (words : List Bytes) (i : ℕ) (word : Bytes) (first : Option (Bor Bytes)) → i < length words → word ≡ get_or words i word → First (Has own) (take i words) first
+pub first_later : {V S : Type 0} (own : HashMap Key V S) (words : List Bytes) (i : ℕ) (word : Bytes) (first : Option (Bor Bytes)) → i < length words → word ≡ get_or words i word → First (Has own) (take i words) first
     → is_earlier word (option_map (λ other. other.now) first) ≡ false → First (Has own) (take (i + 1) words) first
 first_later own words i word first lt is h late = subst (λ (ws : List Bytes). First (Has own) ws first) (sym (word_more words i word lt is)) (later_more (Has own) (take i words) word first h late)
 
-pub first_earlier : {V : Type 0} (own : BTreeMap Key V) (words : List Bytes) (i : ℕ) (word : Bytes) (first : Option (Bor Bytes)) (b : Bool) → i < length words → word ≡ get_or words i word → First (Has own) (take i words) first
+pub first_earlier : {V S : Type 0} (own : HashMap Key V S) (words : List Bytes) (i : ℕ) (word : Bytes) (first : Option (Bor Bytes)) (b : Bool) → i < length words → word ≡ get_or words i word → First (Has own) (take i words) first
     → b ≡ is_some (find own word) → b ≡ true → is_earlier word (option_map (λ other. other.now) first) ≡ true → IsFirst (Has own) (take (i + 1) words) word
 first_earlier own words i word first b lt is h found some early =
     subst (λ (ws : List Bytes). IsFirst (Has own) ws word) (sym (word_more words i word lt is)) (earlier_more (Has own) (take i words) word first h early (has_by own word b found some))
 
 -- ---- as the search meets them
 
-pub has_none : {V : Type 0} (own : BTreeMap Key V) (word : Bytes) → find own word ≡ None → Has own word → ⊥
+pub has_none : {V S : Type 0} (own : HashMap Key V S) (word : Bytes) → find own word ≡ None → Has own word → ⊥
 has_none own word none (value, e) = absurd (cc)
 
-pub nearest_by : {V : Type 0} (links : List Link) (own : BTreeMap Key V) (start : Bytes) (done layer items : List Bytes) (near copy : Bytes) → find own start ≡ None → AreLayers links (Has own) start done layer → items ≡ layer
+pub nearest_by : {V S : Type 0} (links : List Link) (own : HashMap Key V S) (start : Bytes) (done layer items : List Bytes) (near copy : Bytes) → find own start ≡ None → AreLayers links (Has own) start done layer → items ≡ layer
     → IsFirst (Has own) items near → copy ≡ near → IsNearest links (Has own) start copy
 nearest_by links own start done layer items near copy none layers is first same =
     subst (IsNearest links (Has own) start) (sym same) (nearest_in links (Has own) start done layer near (has_none own start none) layers (subst (λ (ws : List Bytes). IsFirst (Has own) ws near) is first))
 
-pub layers_by : {V : Type 0} (links : List Link) (own : BTreeMap Key V) (start : Bytes) (done layer tested before last longer next : List Bytes) → AreLayers links (Has own) start done layer → tested ≡ layer
+pub layers_by : {V S : Type 0} (links : List Link) (own : HashMap Key V S) (start : Bytes) (done layer tested before last longer next : List Bytes) → AreLayers links (Has own) start done layer → tested ≡ layer
     → Each (λ word. Has own word → ⊥) tested → before ≡ done → last ≡ layer → next ≡ with_layer links (before ++ last) [] last → longer ≡ done ++ layer → AreLayers links (Has own) start longer next
 layers_by links own start done layer tested before last longer next layers is without first second new old =
     let same : next ≡ with_layer links (done ++ layer) [] layer =
@@ -586,5 +586,5 @@ no_layer layer items b is h same = sym same ∙ go items (sym is ∙ h)
     go [] e = refl
     go (x ∷ xs) e = let k : length (x ∷ xs) ≡ 0 = zero_of (length (x ∷ xs)) e in absurd (omega (arith, k))
 
-pub none_by : {V : Type 0} (links : List Link) (own : BTreeMap Key V) (start : Bytes) (done layer : List Bytes) → AreLayers links (Has own) start done layer → layer ≡ [] → NoneReached links (Has own) start
+pub none_by : {V S : Type 0} (links : List Link) (own : HashMap Key V S) (start : Bytes) (done layer : List Bytes) → AreLayers links (Has own) start done layer → layer ≡ [] → NoneReached links (Has own) start
 none_by links own start done layer layers is = none_reached links (Has own) start done (subst (AreLayers links (Has own) start done) is layers)

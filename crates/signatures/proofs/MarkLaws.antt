@@ -1,6 +1,5 @@
 -- Words and heads of lists that are marked.
-use Rattle.std.proofs.Common.{◌≡◌, ℕ, ◌+◌, ◌<◌, ◌≤◌, ◌||◌, List, [], ◌∷◌, ◌++◌, length, map, take, Bool, true, false, refl, sym, ap, ap₂, subst, ◌∙◌}
-use Rattle.std.specs.Prelude.{Result, OnOk}
+use Rattle.std.proofs.Common.{◌≡◌, ℕ, ◌≤◌, ◌||◌, List, [], ◌∷◌, length, map, take, Bool, true, false, refl, sym, ap, ap₂, ◌∙◌}
 use Rattle.std.specs.List.{list_any}
 use Rattle.std.specs.Str.{bytes_eq}
 use Rattle.std.proofs.lemmas.List.{take_all}
@@ -14,7 +13,8 @@ use Rattle.kif_tree.specs.declared.form.Form.{Form, para-Form, para-roll-Form}
 use Rattle.kif_tree.specs.declared.form.Form.TheOpen.{Form-F}
 use Rattle.kif_tree.specs.declared.form.Form.TheVariants as form
 use Rattle.kif_tree.proofs.ShapeLaws.{has_word-Word, has_word-List, has_word_other}
-use Rattle.signatures.specs.Marks.{Marks, has, Marked, is_word, occurs_in, begins, heads_in}
+use Rattle.signatures.specs.Marks.{Marks, has, Marked, is_word, begins, heads_in}
+use Rattle.signatures.specs.Names.{occurs_in}
 use Rattle.signatures.specs.Relations.{heads, heads_step}
 
 or_none : (b : Bool) → (b || false) ≡ b
@@ -46,23 +46,26 @@ heads_other name = induction (λ f. ((parts : List Form) → f ≡ form.List par
   list = λ parts each other. absurd (other parts refl);
 })
 
-pub words_of_word : (f : Form) (text word : Bytes) (old new : Marks) → f ≡ form.Word text → word ≡ text → Marked (is_word word) old new → Marked (occurs_in f) old new
-words_of_word f text word old new is same h = λ other.
-    h other ∙ ap (λ b. has old other || b) (ap (bytes_eq other) same ∙ sym (has_word-Word other text) ∙ ap (has_word other) (sym is))
+pub occurs_in_word : (f : Form) (text word other : Bytes) → f ≡ form.Word text → word ≡ text → is_word word other ≡ occurs_in f other
+occurs_in_word f text word other is same = ap (bytes_eq other) same ∙ sym (has_word-Word other text) ∙ ap (has_word other) (sym is)
 
-pub words_of_parts : (f : Form) (parts items : List Form) (i : ℕ) (old new : Marks) → f ≡ form.List parts → items ≡ parts → length items ≤ i → ((word : Bytes) → has new word ≡ (has old word || list_any (has_word word) (take i items)))
-    → Marked (occurs_in f) old new
-words_of_parts f parts items i old new is same end h = λ word.
-    h word
-    ∙ ap (λ b. has old word || b) (ap (list_any (has_word word)) (take_all i items end ∙ same) ∙ sym (has_word-List word parts) ∙ ap (has_word word) (sym is))
+pub occurs_in_parts : (f : Form) (parts items : List Form) (i : ℕ) (other : Bytes) → f ≡ form.List parts → items ≡ parts → length items ≤ i → list_any (has_word other) (take i items) ≡ occurs_in f other
+occurs_in_parts f parts items i other is same end = ap (list_any (has_word other)) (take_all i items end ∙ same) ∙ sym (has_word-List other parts) ∙ ap (has_word other) (sym is)
 
-pub words_of_other : (f : Form) (marks : Marks) → ((text : Bytes) → f ≡ form.Word text → ⊥) → ((parts : List Form) → f ≡ form.List parts → ⊥) → Marked (occurs_in f) marks marks
-words_of_other f marks no_word no_list = λ word. sym (ap (λ b. has marks word || b) (has_word_other word f no_word no_list) ∙ or_none (has marks word))
+pub occurs_in_other : (f : Form) (other : Bytes) → ((text : Bytes) → f ≡ form.Word text → ⊥) → ((parts : List Form) → f ≡ form.List parts → ⊥) → occurs_in f other ≡ false
+occurs_in_other f other no_word no_list = has_word_other other f no_word no_list
 
-pub heads_of_other : (f : Form) (marks : Marks) → ((parts : List Form) → f ≡ form.List parts → ⊥) → Marked (heads_in f) marks marks
+pub marked_before : {S : Type 0} (marks : Marks S) (word : Bytes) (b : Bool) → b ≡ has marks word → b ≡ true → Marked (is_word word) marks marks
+marked_before marks word b is known = λ other. go other (bytes_eq other word) refl
+  where
+    go : (other : Bytes) (d : Bool) → bytes_eq other word ≡ d → has marks other ≡ (has marks other || d)
+    go other true e = let here : has marks other ≡ true = ap (has marks) ((bytes_eq-Decides other word).0 e) ∙ sym is ∙ known in here ∙ sym (ap (λ c. c || true) here)
+    go other false e = sym (or_none (has marks other))
+
+pub heads_of_other : {S : Type 0} (f : Form) (marks : Marks S) → ((parts : List Form) → f ≡ form.List parts → ⊥) → Marked (heads_in f) marks marks
 heads_of_other f marks no_list = λ word. sym (ap (λ b. has marks word || b) (heads_other word f no_list) ∙ or_none (has marks word))
 
-pub heads_of_parts : (f : Form) (parts first items : List Form) (i : ℕ) (old mid new : Marks) → f ≡ form.List parts → first ≡ parts → items ≡ parts → length items ≤ i → Marked (begins first) old mid
+pub heads_of_parts : {S : Type 0} (f : Form) (parts first items : List Form) (i : ℕ) (old mid new : Marks S) → f ≡ form.List parts → first ≡ parts → items ≡ parts → length items ≤ i → Marked (begins first) old mid
     → ((word : Bytes) → has new word ≡ (has mid word || list_any (heads word) (take i items))) → Marked (heads_in f) old new
 heads_of_parts f parts first items i old mid new is one same end begun h = λ word.
     h word ∙ ap₂ (λ a b. a || b) (begun word ∙ ap (λ ps. has old word || begins_with word ps) one) (ap (list_any (heads word)) (take_all i items end ∙ same))

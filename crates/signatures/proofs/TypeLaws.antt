@@ -1,13 +1,9 @@
 -- Types told of words, and those that are inherited.
-use Rattle.std.proofs.Common.{◌≡◌, ◌≢◌, ℕ, ◌+◌, ◌<◌, ◌⊎◌, List, [], ◌∷◌, ◌++◌, length, get_or, take, Bool, true, false, cond, refl, sym, ap, subst, ◌∙◌, arith, inl, inr, if◌then◌else◌}
+use Rattle.std.proofs.Common.{◌≡◌, ◌≢◌, ℕ, ◌+◌, ◌<◌, ◌⊎◌, List, [], ◌∷◌, ◌++◌, length, get_or, take, Bool, true, false, refl, sym, ap, subst, ◌∙◌, inl, inr, if◌then◌else◌}
 use Rattle.std.specs.Prelude.{Option, Some, None, MatchOption, unwrap_or}
-use Rattle.std.specs.BTreeMap.{BTreeMap}
-use Rattle.std.specs.Map.{lookup, remove_entry}
-use Rattle.std.specs.Cmp.Lexicographic.{slice_cmp}
-use Rattle.std.specs.Ordering.{nat_cmp, is_eq}
+use Rattle.std.specs.HashMap.{HashMap, UpdatesBy}
 use Rattle.std.specs.List.{filter_map, cons_option}
 use Rattle.std.specs.Str.{bytes_eq}
-use Rattle.std.proofs.lemmas.Map.Text.{is_eq-slice_cmp}
 use Rattle.std.proofs.lemmas.Slice.Eq.{bytes_eq-Decides}
 use Rattle.std.proofs.lemmas.List.{take_more}
 use Rattle.std.proofs.lemmas.List.Elements.{filter_map-append}
@@ -24,28 +20,11 @@ use Rattle.signatures.specs.Nearest.{IsNearest, NoneReached}
 use Rattle.signatures.specs.Types.{type_in, own_types, HasTypes, AreInherited, AreNone, AreTypes, range_in, ranges}
 use Rattle.signatures.specs.TypeTables.{as_found, found_for, type_by, type_at, range_by, range_at, IsTaken, AddsFound, AreToldTypes}
 use Rattle.signatures.proofs.ArityLaws.{nearest_as}
+use Rattle.signatures.proofs.WordTableLaws.{updated_by}
 use Rattle.signatures.specs.WordTables.{Key, find, Has, IsSet}
 
-abbrev at : Bytes → Key → Bool
-at word key = is_eq (slice_cmp nat_cmp word key.items)
-
-at_true : (word : Bytes) (key : Key) → at word key ≡ true → word ≡ key.items
-at_true word key e = (bytes_eq-Decides word key.items).0 (sym (is_eq-slice_cmp word key.items) ∙ e)
-
-remove_lookup : {V : Type 0} (es : List (Key × V)) (word other : Bytes) → bytes_eq other word ≡ false → lookup (at other) (remove_entry (at word) es) ≡ lookup (at other) es
-remove_lookup [] word other apart = refl
-remove_lookup {V = V} (e ∷ es) word other apart = go (at word e.0) refl (at other e.0) refl (remove_lookup es word other apart)
-  where
-    go : (b : Bool) → at word e.0 ≡ b → (d : Bool) → at other e.0 ≡ d → lookup (at other) (remove_entry (at word) es) ≡ lookup (at other) es
-        → lookup (at other) (cond b es (e ∷ remove_entry (at word) es)) ≡ cond d (Some e.1) (lookup (at other) es)
-    go true h true k ih =
-        let same : bytes_eq other word ≡ true = (bytes_eq-Decides other word).1 (at_true other e.0 k ∙ sym (at_true word e.0 h)) in
-        let no_way : true ≡ false = sym same ∙ apart in absurd (cc)
-    go true h false k ih = refl
-    go false h d k ih = ap (λ (b : Bool). cond b (Some e.1) (lookup (at other) (remove_entry (at word) es))) k ∙ ap (λ (o : Option V). cond d (Some e.1) o) ih
-
-pub taken_by : (old new : BTreeMap Key (List TypeTold)) (word : Bytes) → new.entries ≡ remove_entry (at word) old.entries → IsTaken old new word
-taken_by old new word entries = λ other apart. ap (λ (es : List (Key × List TypeTold)). lookup (at other) es) entries ∙ remove_lookup old.entries word other apart
+pub taken_by : {S : Type 0} (old new : HashMap Key (List TypeTold) S) (word : Bytes) → UpdatesBy (λ (x y : Key). bytes_eq x.items y.items) (λ (key : Key). bytes_eq word key.items) old new None → IsTaken old new word
+taken_by old new word h = λ other apart. updated_by old new word None h other ∙ ap (λ b. if b then None else find old other) apart
 
 append_none : (xs : List TypeTold) → xs ++ [] ≡ xs
 append_none [] = refl
@@ -59,10 +38,10 @@ found_more : (xs : List TypeTold) (x : TypeTold) → Some (xs ++ x ∷ []) ≡ a
 found_more [] x = refl
 found_more (y ∷ xs) x = refl
 
-pub adds_none : (table : BTreeMap Key (List TypeTold)) → AddsFound table table None
+pub adds_none : {S : Type 0} → (table : HashMap Key (List TypeTold) S) → AddsFound table table None
 adds_none table = λ word types e. e ∙ ap as_found (sym (append_none types))
 
-pub adds_one : (old mid new : BTreeMap Key (List TypeTold)) (found : FoundType) (word : Bytes) (list longer : List TypeTold) (told : TypeTold) → word ≡ found.word.now → list ≡ unwrap_or (find old word) [] → IsTaken old mid word
+pub adds_one : {S : Type 0} → (old mid new : HashMap Key (List TypeTold) S) (found : FoundType) (word : Bytes) (list longer : List TypeTold) (told : TypeTold) → word ≡ found.word.now → list ≡ unwrap_or (find old word) [] → IsTaken old mid word
     → longer ≡ list ++ told ∷ [] → told ≡ record { subclass = found.subclass; class = found.class.now; place = found.place } → IsSet mid new word longer → AddsFound old new (Some found)
 adds_one old mid new found word list longer told same is taken more told_is set = λ other types e. set other ∙ go other types e (bytes_eq other word) refl
   where
@@ -84,7 +63,7 @@ adds_one old mid new found word list longer told same is taken more told_is set 
         not_same true no_way = absurd (no_way refl)
         not_same false no_way = refl
 
-pub told_more : (told : Bytes → Located → Option TypeTold) (forms : List Located) (i : ℕ) (located : Located) (old new : BTreeMap Key (List TypeTold)) (found : Option FoundType) → i < length forms → located ≡ get_or forms i located
+pub told_more : {S : Type 0} → (told : Bytes → Located → Option TypeTold) (forms : List Located) (i : ℕ) (located : Located) (old new : HashMap Key (List TypeTold) S) (found : Option FoundType) → i < length forms → located ≡ get_or forms i located
     → AreToldTypes told (take i forms) old → ((word : Bytes) → found_for word found ≡ told word located) → AddsFound old new found → AreToldTypes told (take (i + 1) forms) new
 told_more told forms i located old new found lt is h found_is adds = λ word.
     adds word (filter_map (told word) (take i forms)) (h word)
@@ -93,7 +72,7 @@ told_more told forms i located old new found lt is h found_is adds = λ word.
     (ap (λ (fs : List Located). as_found (filter_map (told word) fs)) (take_more forms i located lt) ∙ ap as_found (filter_map-append (told word) (take i forms) (get_or forms i located ∷ []))
     ∙ ap (λ (l : Located). as_found (filter_map (told word) (take i forms) ++ cons_option (told word l) [])) (sym is))
 
-pub adds_by : (old mid new : BTreeMap Key (List TypeTold)) (o : Option FoundType) (found : FoundType) (first second : Bytes) (list longer : List TypeTold) (told : TypeTold) → o ≡ Some found → first ≡ found.word.now → second ≡ found.word.now
+pub adds_by : {S : Type 0} → (old mid new : HashMap Key (List TypeTold) S) (o : Option FoundType) (found : FoundType) (first second : Bytes) (list longer : List TypeTold) (told : TypeTold) → o ≡ Some found → first ≡ found.word.now → second ≡ found.word.now
     → told.class ≡ found.class.now → list ≡ unwrap_or (find old first) [] → IsTaken old mid first → longer ≡ list ++ record { subclass = found.subclass; class = told.class; place = found.place } ∷ [] → IsSet mid new second longer → AddsFound old new o
 adds_by old mid new o found first second list longer told is one two class listed taken more set =
     subst (AddsFound old new) (sym is)
@@ -124,7 +103,7 @@ ranges_are forms word = by_composed told_pair (range_in word) (range_at word) (�
     each None = refl
     each (Some told) = refl
 
-pub ranges_by : (forms : List Located) (table : BTreeMap Key (List TypeTold)) → AreToldTypes range_at forms table → (word : Bytes) → unwrap_or (find table word) [] ≡ ranges forms word
+pub ranges_by : {S : Type 0} → (forms : List Located) (table : HashMap Key (List TypeTold) S) → AreToldTypes range_at forms table → (word : Bytes) → unwrap_or (find table word) [] ≡ ranges forms word
 ranges_by forms table h word = ap (λ (o : Option (List TypeTold)). unwrap_or o []) (h word) ∙ found_list (filter_map (range_at word) forms) ∙ ranges_are forms word
 
 as_found_none : (xs : List TypeTold) → as_found xs ≡ None → xs ≡ []

@@ -1,35 +1,33 @@
 -- Told forms as the code finds them.
-use Rattle.std.specs.Prelude.{ℕ, List, [], ◌∷◌, Option, Some, None, Bool, true, false, nat_eq, if◌then◌else◌}
+use Rattle.std.specs.Prelude.{ℕ, List, [], Option, Some, None, nat_eq, if◌then◌else◌}
 use Rattle.std.specs.Borrow.{Bor}
 use Rattle.std.specs.Option.{option_map}
 use Rattle.kif_tree.specs.Terms.{Bytes}
-use Rattle.kif_tree.specs.declared.form.Form.{Form}
 use Rattle.kif_tree.specs.declared.place.Located.{Located}
-use Rattle.taxonomy.specs.Told.{word_text, parts_of, text_before, ToldPair, ToldNumber, ToldArgument}
+use Rattle.taxonomy.specs.declared.told.ChainKind.{ChainKind}
+use Rattle.taxonomy.specs.declared.told.ChainKind.TheVariants as kinds
+use Rattle.taxonomy.specs.Told.{text_before, Link, told_link, ToldPair, ToldNumber, ToldArgument}
+use Rattle.signatures.specs.declared.forms.FoundLink.{FoundLink}
 use Rattle.signatures.specs.declared.forms.FoundPair.{FoundPair}
 use Rattle.signatures.specs.declared.forms.FoundNumber.{FoundNumber}
 use Rattle.signatures.specs.declared.forms.FoundArgument.{FoundArgument}
 
-abbrev pub second_text : List Form → Option Bytes
-second_text (head ∷ second ∷ more) = word_text second
-second_text _ = None
+-- a found link without its references to the form
+abbrev pub found_link : FoundLink → Link
+found_link link = record { kind = link.kind; low = link.low.now; high = link.high.now; place = link.place }
 
--- the word that a told form speaks of: its second part, where that is a word
-abbrev pub subject : Located → Option Bytes
-subject located = second_text (parts_of located.form)
+abbrev pub low_of_relation : ChainKind → Bytes → Option Bytes
+low_of_relation kinds.Class low = None
+low_of_relation kinds.Instance low = None
+low_of_relation kinds.Relation low = Some low
 
-abbrev pub third_text : List Form → Option Bytes
-third_text (head ∷ second ∷ third ∷ more) = word_text third
-third_text _ = None
+abbrev pub relation_of : Option Link → Option Bytes
+relation_of (Some link) = low_of_relation link.kind link.low
+relation_of None = None
 
--- the third part, where it is a word
-abbrev pub object : Located → Option Bytes
-object located = third_text (parts_of located.form)
-
--- the second part or the third one, where it is a word
-abbrev pub told_word : Bool → Located → Option Bytes
-told_word true located = subject located
-told_word false located = object located
+-- the word that a `subrelation` form calls the lower one
+abbrev pub relation_word : Located → Option Bytes
+relation_word located = relation_of (told_link located)
 
 abbrev pub text_in : Option (Bor Bytes) → Option Bytes
 text_in word = option_map (λ (text : Bor Bytes). text.now) word

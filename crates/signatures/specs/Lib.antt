@@ -12,3 +12,4 @@ pub mod Tables
 pub mod ArgumentTables
 pub mod Marks
 pub mod Names
+pub mod Below

@@ -1,13 +1,30 @@
 -- Relation names as the code tests them.
-use Rattle.std.specs.Prelude.{Bool, not, ◌&&◌, ◌||◌}
-use Rattle.kif_tree.specs.Shape.{is_among, logical_words}
+use Rattle.std.specs.Prelude.{◌≡◌, Bool, not, ◌&&◌, ◌||◌}
+use Rattle.kif_tree.specs.Shape.{is_among, logical_words, has_word}
+use Rattle.kif_tree.specs.declared.form.Form.{Form}
 use Rattle.kif_tree.specs.Terms.{Bytes}
 use Rattle.signatures.specs.declared.inherited.Inherited.{Inherited}
 use Rattle.signatures.specs.declared.told.Arity.{Arity}
 use Rattle.signatures.specs.Arities.{shown_heads}
-use Rattle.signatures.specs.Marks.{Marks, has, is_stated}
+use Rattle.signatures.specs.Marks.{Marks, OrderedMarks, has, has_ordered, is_stated}
+use Rattle.signatures.specs.declared.names.Found.{Found}
 use Rattle.signatures.specs.Tables.{arity_by}
 
 -- a word of the snapshot is a relation name
-abbrev pub is_name : Marks → Inherited Arity → Bytes → Bool
+abbrev pub is_name : {S : Type 0} → Marks S → Inherited Arity → Bytes → Bool
 is_name heads arities word = not (is_among logical_words word) && (not (is_among shown_heads word) && (has heads word || is_stated (arity_by arities word)))
+
+-- the found words are in their order just those that were seen
+abbrev pub IsPaired : Found → Type 0
+IsPaired found = (word : Bytes) → has found.seen word ≡ has_ordered found.ordered word
+
+-- the names among the words that pass the test were added
+abbrev pub AddsNames : {S : Type 0} → Marks S → Inherited Arity → (Bytes → Bool) → Found → Found → Type 0
+AddsNames heads arities test old new = IsPaired old → IsPaired new × ((word : Bytes) → has_ordered new.ordered word ≡ (has_ordered old.ordered word || (is_name heads arities word && test word)))
+
+-- the names among the words that pass the test
+abbrev pub AreNames : {S : Type 0} → Marks S → Inherited Arity → (Bytes → Bool) → OrderedMarks → Type 0
+AreNames heads arities test ordered = (word : Bytes) → has_ordered ordered word ≡ (is_name heads arities word && test word)
+
+abbrev pub occurs_in : Form → Bytes → Bool
+occurs_in form word = has_word word form

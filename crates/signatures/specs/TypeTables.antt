@@ -1,6 +1,6 @@
 -- Types told of words, as tables of them grow.
-use Rattle.std.specs.Prelude.{◌≡◌, ℕ, List, [], ◌∷◌, ◌++◌, Bool, false, Option, Some, None, if◌then◌else◌, unwrap_or}
-use Rattle.std.specs.BTreeMap.{BTreeMap}
+use Rattle.std.specs.Prelude.{◌≡◌, ℕ, List, [], ◌∷◌, ◌++◌, false, Option, Some, None, if◌then◌else◌}
+use Rattle.std.specs.HashMap.{HashMap}
 use Rattle.std.specs.List.{filter_map, cons_option}
 use Rattle.std.specs.Str.{bytes_eq}
 use Rattle.kif_tree.specs.Terms.{Bytes}
@@ -37,13 +37,13 @@ abbrev pub range_at : Bytes → Located → Option TypeTold
 range_at word located = range_by word (told_pair located)
 
 -- the word's list without the word in the table
-abbrev pub IsTaken : BTreeMap Key (List TypeTold) → BTreeMap Key (List TypeTold) → Bytes → Type 0
+abbrev pub IsTaken : {S : Type 0} → HashMap Key (List TypeTold) S → HashMap Key (List TypeTold) S → Bytes → Type 0
 IsTaken old new word = (other : Bytes) → bytes_eq other word ≡ false → find new other ≡ find old other
 
 -- what is found is added last for its word
-abbrev pub AddsFound : BTreeMap Key (List TypeTold) → BTreeMap Key (List TypeTold) → Option FoundType → Type 0
+abbrev pub AddsFound : {S : Type 0} → HashMap Key (List TypeTold) S → HashMap Key (List TypeTold) S → Option FoundType → Type 0
 AddsFound old new found = (word : Bytes) (types : List TypeTold) → find old word ≡ as_found types → find new word ≡ as_found (types ++ cons_option (found_for word found) [])
 
 -- the table has what the forms tell of each word
-abbrev pub AreToldTypes : (Bytes → Located → Option TypeTold) → List Located → BTreeMap Key (List TypeTold) → Type 0
+abbrev pub AreToldTypes : {S : Type 0} → (Bytes → Located → Option TypeTold) → List Located → HashMap Key (List TypeTold) S → Type 0
 AreToldTypes told forms table = (word : Bytes) → find table word ≡ as_found (filter_map (told word) forms)

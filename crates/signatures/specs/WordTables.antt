@@ -1,8 +1,6 @@
 -- Tables with a value for some words.
 use Rattle.std.specs.Prelude.{◌≡◌, ℕ, ◌⊎◌, List, Option, Some, None, if◌then◌else◌}
-use Rattle.std.specs.BTreeMap.{BTreeMap, get_by}
-use Rattle.std.specs.Cmp.Lexicographic.{slice_cmp}
-use Rattle.std.specs.Ordering.{nat_cmp}
+use Rattle.std.specs.HashMap.{HashMap, get_by}
 use Rattle.std.specs.Str.{bytes_eq}
 use Rattle.std.specs.declared.alloc.Global.{Global}
 use Rattle.std.specs.declared.vec.Vec.{Vec}
@@ -13,24 +11,24 @@ abbrev pub Key : Type 0
 Key = Vec ℕ Global
 
 -- the value that the table has for the word
-abbrev pub find : {V : Type 0} → BTreeMap Key V → Bytes → Option V
-find table word = get_by (λ (key : Key). slice_cmp nat_cmp word key.items) table
+abbrev pub find : {V S : Type 0} → HashMap Key V S → Bytes → Option V
+find table word = get_by (λ (key : Key). bytes_eq word key.items) table
 
 -- the table has a value for the word
-abbrev pub Has : {V : Type 0} → BTreeMap Key V → Bytes → Type 0
+abbrev pub Has : {V S : Type 0} → HashMap Key V S → Bytes → Type 0
 Has {V = V} table word = (value : V) × (find table word ≡ Some value)
 
 -- the new table has the value for the word, and for others what the old one has
-abbrev pub IsSet : {V : Type 0} → BTreeMap Key V → BTreeMap Key V → Bytes → V → Type 0
+abbrev pub IsSet : {V S : Type 0} → HashMap Key V S → HashMap Key V S → Bytes → V → Type 0
 IsSet old new word value = (other : Bytes) → find new other ≡ (if bytes_eq other word then Some value else find old other)
 
 -- each value is right for its word, and the words that were gone through and have none need none
-pub record IsTableOf {V : Type 0} (IsRight : Bytes → V → Type 0) (NeedsNone : Bytes → Type 0) (words : List Bytes) (table : BTreeMap Key V) : Type 0 where
+pub record IsTableOf {V S : Type 0} (IsRight : Bytes → V → Type 0) (NeedsNone : Bytes → Type 0) (words : List Bytes) (table : HashMap Key V S) : Type 0 where
   pub right : (word : Bytes) (value : V) → find table word ≡ Some value → IsRight word value
   pub all : Each (λ word. find table word ≡ None → NeedsNone word) words
 
 -- the word was gone through
-pub record IsGoneThrough {V : Type 0} (IsRight : Bytes → V → Type 0) (NeedsNone : Bytes → Type 0) (old new : BTreeMap Key V) (word : Bytes) : Type 0 where
+pub record IsGoneThrough {V S : Type 0} (IsRight : Bytes → V → Type 0) (NeedsNone : Bytes → Type 0) (old new : HashMap Key V S) (word : Bytes) : Type 0 where
   pub right : (other : Bytes) (value : V) → find new other ≡ Some value → (find old other ≡ Some value) ⊎ IsRight other value
   pub kept : (other : Bytes) → find new other ≡ None → find old other ≡ None
   pub here : find new word ≡ None → NeedsNone word

@@ -1,21 +1,22 @@
 //! How many arguments words take of their own.
-ghost use Rattle.std.specs.Prelude.{◌≡◌, List, true, false, ◌∷◌, ◌++◌, IfOk, OnOk};
+ghost use Rattle.std.specs.Prelude.{◌≡◌, List, [], ◌∷◌, ◌++◌, IfOk, OnOk};
 ghost use Rattle.std.specs.List.{filter_map};
 ghost use Rattle.kif_tree.specs.Shape as shape;
 ghost use Rattle.kif_tree.specs.Terms.{Bytes};
 ghost use Rattle.kif_tree.specs.declared.place.Located.{Located};
 ghost use Rattle.taxonomy.specs.Told.{links};
-ghost use Rattle.signatures.specs.Forms as found;
 ghost use Rattle.signatures.specs.Arities as spec;
+ghost use Rattle.signatures.specs.Below as words;
 ghost use Rattle.signatures.specs.OwnArities as own;
 
-use crate::forms::{number_in, told_word};
+use crate::below::{Below, arity_word, words_below};
+use crate::forms::number_in;
 use crate::told::Arity;
-use crate::word_table::set;
+use crate::word_table::{WordTable, set};
 use kif_tree::Located;
 use sigma_base::NoMemory;
 use std::alloc::Global;
-use std::collections::BTreeMap;
+use std::collections::HashMap;
 use taxonomy::{ChainKind, Taxonomy};
 
 fn is_of_two(word: &[u8]) -> bool
@@ -71,83 +72,99 @@ pub fn built_in(word: &[u8]) -> Option<Arity>
     None
 }
 
-/// Whether an instance chain leads from the word to the class; where it does, the arity, and else what comes of the rest.
+/// What was found before, or else the arity, where an instance chain leads from the word to the class.
 fn or_by(
     taxonomy: &Taxonomy,
     word: &[u8],
+    found: Option<Arity>,
     class: &[u8],
     arity: Arity,
-    rest: Option<Arity>,
 ) -> Option<Arity>
-    ensures { (classes : List spec.ClassArity) → spec.IsByClass taxonomy.now.links word.now classes rest → spec.IsByClass taxonomy.now.links word.now (spec.gives class.now arity ∷ classes) result }
+    ensures { (classes : List spec.ClassArity) → spec.IsByClass taxonomy.now.links word.now classes found → spec.IsByClass taxonomy.now.links word.now (classes ++ spec.gives class.now arity ∷ []) result }
 {
+    if let Some(arity) = found {
+        return Some(arity);
+    }
     if taxonomy.is_above(ChainKind::Instance, word, class) {
         return Some(arity);
     }
-    rest
+    None
 }
 
-/// By the first of the classes of functions to which an instance chain leads, or else what comes of the rest.
-fn or_by_function(taxonomy: &Taxonomy, word: &[u8], rest: Option<Arity>) -> Option<Arity>
-    ensures { (classes : List spec.ClassArity) → spec.IsByClass taxonomy.now.links word.now classes rest → spec.IsByClass taxonomy.now.links word.now (spec.function_classes ++ classes) result }
+/// By the first of the classes of functions to which an instance chain leads.
+fn by_function(taxonomy: &Taxonomy, word: &[u8]) -> Option<Arity>
+    ensures { spec.IsByClass taxonomy.now.links word.now spec.function_classes result }
 {
-    let rest = or_by(
+    let found = or_by(taxonomy, word, None, b"UnaryFunction", Arity::Exactly(1));
+    let found = or_by(taxonomy, word, found, b"BinaryFunction", Arity::Exactly(2));
+    let found = or_by(taxonomy, word, found, b"TernaryFunction", Arity::Exactly(3));
+    or_by(
         taxonomy,
         word,
+        found,
         b"QuaternaryFunction",
         Arity::Exactly(4),
-        rest,
-    );
-    let rest = or_by(taxonomy, word, b"TernaryFunction", Arity::Exactly(3), rest);
-    let rest = or_by(taxonomy, word, b"BinaryFunction", Arity::Exactly(2), rest);
-    or_by(taxonomy, word, b"UnaryFunction", Arity::Exactly(1), rest)
+    )
 }
 
-/// By the first of the classes of relations with a number of arguments to which an instance chain leads, or else what comes of the rest.
-fn or_by_relation(taxonomy: &Taxonomy, word: &[u8], rest: Option<Arity>) -> Option<Arity>
-    ensures { (classes : List spec.ClassArity) → spec.IsByClass taxonomy.now.links word.now classes rest → spec.IsByClass taxonomy.now.links word.now (spec.relation_classes ++ classes) result }
+/// What was found by classes of functions, or else by the first of the classes of relations with a number of arguments to which an instance chain leads.
+fn or_by_relation(taxonomy: &Taxonomy, word: &[u8], found: Option<Arity>) -> Option<Arity>
+    requires { spec.IsByClass taxonomy.now.links word.now spec.function_classes found }
+    ensures { spec.IsByClass taxonomy.now.links word.now (spec.function_classes ++ spec.relation_classes) result }
 {
-    let rest = or_by(taxonomy, word, b"QuintaryRelation", Arity::Exactly(5), rest);
-    let rest = or_by(
+    let found = or_by(taxonomy, word, found, b"BinaryPredicate", Arity::Exactly(2));
+    let found = or_by(taxonomy, word, found, b"BinaryRelation", Arity::Exactly(2));
+    let found = or_by(
         taxonomy,
         word,
-        b"QuintaryPredicate",
-        Arity::Exactly(5),
-        rest,
+        found,
+        b"TernaryPredicate",
+        Arity::Exactly(3),
     );
-    let rest = or_by(
+    let found = or_by(taxonomy, word, found, b"TernaryRelation", Arity::Exactly(3));
+    let found = or_by(
         taxonomy,
         word,
-        b"QuaternaryRelation",
-        Arity::Exactly(4),
-        rest,
-    );
-    let rest = or_by(
-        taxonomy,
-        word,
+        found,
         b"QuaternaryPredicate",
         Arity::Exactly(4),
-        rest,
     );
-    let rest = or_by(taxonomy, word, b"TernaryRelation", Arity::Exactly(3), rest);
-    let rest = or_by(taxonomy, word, b"TernaryPredicate", Arity::Exactly(3), rest);
-    let rest = or_by(taxonomy, word, b"BinaryRelation", Arity::Exactly(2), rest);
-    or_by(taxonomy, word, b"BinaryPredicate", Arity::Exactly(2), rest)
+    let found = or_by(
+        taxonomy,
+        word,
+        found,
+        b"QuaternaryRelation",
+        Arity::Exactly(4),
+    );
+    let found = or_by(
+        taxonomy,
+        word,
+        found,
+        b"QuintaryPredicate",
+        Arity::Exactly(5),
+    );
+    or_by(
+        taxonomy,
+        word,
+        found,
+        b"QuintaryRelation",
+        Arity::Exactly(5),
+    )
 }
 
 /// The arity that the word has by the classes to which instance chains lead from it.
 fn by_class(taxonomy: &Taxonomy, word: &[u8]) -> Option<Arity>
     ensures { spec.IsByClass taxonomy.now.links word.now spec.arity_classes result }
 {
-    let rest = or_by(taxonomy, word, b"VariableArityRelation", Arity::Any, None);
-    let rest = or_by_relation(taxonomy, word, rest);
-    or_by_function(taxonomy, word, rest)
+    let found = by_function(taxonomy, word);
+    let found = or_by_relation(taxonomy, word, found);
+    or_by(taxonomy, word, found, b"VariableArityRelation", Arity::Any)
 }
 
 /// Gives the word that the form tells a valence of its arity, where it has none yet.
 fn add_valence(
     alloc: Global,
-    table: &mut BTreeMap<Vec<u8>, Arity>,
+    table: &mut WordTable<Arity>,
     located: &Located,
 ) -> Result<(), NoMemory>
     ensures { OnOk result (own.AddsValence table.old table.new located.now) }
@@ -170,10 +187,10 @@ fn add_valence(
 }
 
 /// For each word its first told valence.
-pub fn valences(alloc: Global, forms: &[Located]) -> Result<BTreeMap<Vec<u8>, Arity>, NoMemory>
+pub fn valences(alloc: Global, forms: &[Located]) -> Result<WordTable<Arity>, NoMemory>
     ensures { IfOk result (λ table. own.AreValences forms.now table) }
 {
-    let mut table = BTreeMap::new(alloc);
+    let mut table = HashMap::new(alloc);
     for located in forms {
         add_valence(alloc, &mut table, located)?;
     }
@@ -181,7 +198,7 @@ pub fn valences(alloc: Global, forms: &[Located]) -> Result<BTreeMap<Vec<u8>, Ar
 }
 
 /// The word's own arity.
-fn own_arity(valences: &BTreeMap<Vec<u8>, Arity>, taxonomy: &Taxonomy, word: &[u8]) -> Option<Arity>
+fn own_arity(valences: &WordTable<Arity>, taxonomy: &Taxonomy, word: &[u8]) -> Option<Arity>
     ensures { (forms : List Located) → own.AreValences forms valences.now → taxonomy.now.links ≡ links forms → spec.IsOwnArity forms word.now result }
 {
     if let Some(arity) = built_in(word) {
@@ -196,9 +213,9 @@ fn own_arity(valences: &BTreeMap<Vec<u8>, Arity>, taxonomy: &Taxonomy, word: &[u
 /// Gives the word its own arity, if it has one.
 fn add_own(
     alloc: Global,
-    valences: &BTreeMap<Vec<u8>, Arity>,
+    valences: &WordTable<Arity>,
     taxonomy: &Taxonomy,
-    table: &mut BTreeMap<Vec<u8>, Arity>,
+    table: &mut WordTable<Arity>,
     word: &[u8],
 ) -> Result<(), NoMemory>
     ensures { OnOk result ((forms : List Located) → own.AreValences forms valences.now → taxonomy.now.links ≡ links forms → own.IsOwnGone forms table.old table.new word.now) }
@@ -213,21 +230,22 @@ fn add_own(
     Ok(())
 }
 
-/// Gives the second words of the forms, or the third ones, their own arities.
+/// Gives the words that links or valences may give one their own arities.
 fn add_all(
     alloc: Global,
     forms: &[Located],
-    is_second: bool,
-    valences: &BTreeMap<Vec<u8>, Arity>,
+    below: &Below,
+    is_link: bool,
+    valences: &WordTable<Arity>,
     taxonomy: &Taxonomy,
-    table: &mut BTreeMap<Vec<u8>, Arity>,
+    table: &mut WordTable<Arity>,
 ) -> Result<(), NoMemory>
     requires valences { own.AreValences forms.now valences.now }
     requires told { taxonomy.now.links ≡ links forms.now }
-    ensures { OnOk result ((before : List Bytes) → own.AreOwn forms.now before table.old → own.AreOwn forms.now (before ++ filter_map (found.told_word is_second) forms.now) table.new) }
+    ensures { OnOk result ((before : List Bytes) → own.AreOwn forms.now before table.old → own.AreOwn forms.now (before ++ filter_map (words.arity_word below.now is_link) forms.now) table.new) }
 {
     for located in forms {
-        let Some(word) = told_word(located, is_second) else {
+        let Some(word) = arity_word(below, located, is_link) else {
             continue;
         };
         add_own(alloc, valences, taxonomy, table, word.bytes())?;
@@ -235,18 +253,19 @@ fn add_all(
     Ok(())
 }
 
-/// The own arities of the words in told forms.
+/// The own arities of all words, but that words to which nothing leads are left out, and built-in words where no link has them.
 pub fn own_arities(
     alloc: Global,
     forms: &[Located],
     taxonomy: &Taxonomy,
-) -> Result<BTreeMap<Vec<u8>, Arity>, NoMemory>
+) -> Result<WordTable<Arity>, NoMemory>
     requires { taxonomy.now.links ≡ links forms.now }
-    ensures { IfOk result (λ table. own.AreOwn forms.now (filter_map (found.told_word true) forms.now ++ filter_map (found.told_word false) forms.now) table) }
+    ensures { IfOk result (own.AreOwnArities forms.now) }
 {
     let valences = valences(alloc, forms)?;
-    let mut table = BTreeMap::new(alloc);
-    add_all(alloc, forms, true, &valences, taxonomy, &mut table)?;
-    add_all(alloc, forms, false, &valences, taxonomy, &mut table)?;
+    let below = words_below(alloc, forms)?;
+    let mut table = HashMap::new(alloc);
+    add_all(alloc, forms, &below, true, &valences, taxonomy, &mut table)?;
+    add_all(alloc, forms, &below, false, &valences, taxonomy, &mut table)?;
     Ok(table)
 }

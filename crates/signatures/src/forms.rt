@@ -7,6 +7,7 @@ ghost use Rattle.taxonomy.specs.Told as told;
 ghost use Rattle.signatures.specs.Forms as spec;
 
 use kif_tree::{Form, Located, Place, Text};
+use taxonomy::ChainKind;
 
 /// A told form of a head and two words.
 #[derive(Clone, Copy, Debug)]
@@ -14,6 +15,15 @@ pub struct FoundPair<'a> {
     pub head: &'a Text,
     pub first: &'a Text,
     pub second: &'a Text,
+    pub place: Place,
+}
+
+/// A told link, whose words stand in its form.
+#[derive(Clone, Copy, Debug)]
+pub struct FoundLink<'a> {
+    pub kind: ChainKind,
+    pub low: &'a Text,
+    pub high: &'a Text,
     pub place: Place,
 }
 
@@ -107,34 +117,51 @@ fn short_number(form: &Form) -> Option<u32>
     }
 }
 
-/// The second part of the form, where that is a word: what told forms speak of.
-pub fn subject_of(located: &Located) -> Option<&Text>
-    ensures { MatchOption result (spec.subject located.now ≡ None) (λ word. spec.subject located.now ≡ Some word.now) }
+/// The kind of chain that begins with a form of this head.
+fn kind_of(head: &[u8]) -> Option<ChainKind>
+    ensures { result ≡ told.kind_of head.now }
 {
-    let [_, second, ..] = parts_of(&located.form) else {
-        return None;
-    };
-    word_of(second)
-}
-
-/// The third part of the form, where that is a word.
-fn object_of(located: &Located) -> Option<&Text>
-    ensures { MatchOption result (spec.object located.now ≡ None) (λ word. spec.object located.now ≡ Some word.now) }
-{
-    let [_, _, third, ..] = parts_of(&located.form) else {
-        return None;
-    };
-    word_of(third)
-}
-
-/// The second part of the form, or the third one, where that is a word.
-pub fn told_word(located: &Located, is_second: bool) -> Option<&Text>
-    ensures { MatchOption result (spec.told_word is_second located.now ≡ None) (λ word. spec.told_word is_second located.now ≡ Some word.now) }
-{
-    if is_second {
-        return subject_of(located);
+    if head == b"instance".as_slice() {
+        return Some(ChainKind::Instance);
     }
-    object_of(located)
+    if head == b"subclass".as_slice() {
+        return Some(ChainKind::Class);
+    }
+    if head == b"subrelation".as_slice() {
+        return Some(ChainKind::Relation);
+    }
+    None
+}
+
+/// The link that the form tells, if it tells one.
+pub fn link_in(located: &Located) -> Option<FoundLink<'_>>
+    ensures { option_map spec.found_link result ≡ told.told_link located.now }
+{
+    let parts = parts_of(&located.form);
+    if parts.len() != 3 {
+        return None;
+    }
+    let head = word_of(&parts[0])?;
+    let low = word_of(&parts[1])?;
+    let high = word_of(&parts[2])?;
+    let kind = kind_of(head.bytes())?;
+    Some(FoundLink {
+        kind,
+        low,
+        high,
+        place: located.place,
+    })
+}
+
+/// The first word of a told `subrelation` form.
+pub fn relation_in(located: &Located) -> Option<&Text>
+    ensures { MatchOption result (spec.relation_word located.now ≡ None) (λ word. spec.relation_word located.now ≡ Some word.now) }
+{
+    let found = link_in(located)?;
+    match found.kind {
+        ChainKind::Relation => Some(found.low),
+        _ => None,
+    }
 }
 
 fn pair_of<'a>(

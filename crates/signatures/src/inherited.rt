@@ -3,31 +3,31 @@ ghost use Rattle.std.specs.Prelude.{◌≡◌, ◌++◌, [], ◌∷◌, Some, If
 ghost use Rattle.std.specs.List.{filter_map};
 ghost use Rattle.std.specs.Option.{option_map};
 ghost use Rattle.taxonomy.specs.Told.{links};
-ghost use Rattle.signatures.specs.Forms.{subject};
+ghost use Rattle.signatures.specs.Forms.{relation_word};
 ghost use Rattle.signatures.specs.Inherited as spec;
 
-use crate::forms::subject_of;
+use crate::forms::relation_in;
 use crate::nearest::nearest;
-use crate::word_table::set;
+use crate::word_table::{WordTable, set};
 use kif_tree::{Located, Text};
 use sigma_base::NoMemory;
 use std::alloc::Global;
-use std::collections::BTreeMap;
+use std::collections::HashMap;
 use taxonomy::Taxonomy;
 
 /// The words' own values, and for words without one the nearest word that has one.
 #[derive(Debug, Drop)]
 pub struct Inherited<V> {
-    own: BTreeMap<Vec<u8>, V>,
-    nearest: BTreeMap<Vec<u8>, Text>,
+    own: WordTable<V>,
+    nearest: WordTable<Text>,
 }
 
 /// Notes the nearest word for the word, where it has no value of its own.
 fn note<V>(
     alloc: Global,
     taxonomy: &Taxonomy,
-    own: &BTreeMap<Vec<u8>, V>,
-    table: &mut BTreeMap<Vec<u8>, Text>,
+    own: &WordTable<V>,
+    table: &mut WordTable<Text>,
     word: &[u8],
 ) -> Result<(), NoMemory>
     ensures { OnOk result (spec.IsNoted taxonomy.now.links own.now table.old table.new word.now) }
@@ -44,18 +44,18 @@ fn note<V>(
     set(alloc, table, word, near)
 }
 
-/// For the words of which forms tell something and that have no value of their own, the nearest word that has one.
+/// For the words of which `subrelation` forms tell something and that have no value of their own, the nearest word that has one.
 fn nearest_words<V>(
     alloc: Global,
     forms: &[Located],
     taxonomy: &Taxonomy,
-    own: &BTreeMap<Vec<u8>, V>,
-) -> Result<BTreeMap<Vec<u8>, Text>, NoMemory>
-    ensures { IfOk result (λ table. spec.AreNoted taxonomy.now.links own.now (filter_map subject forms.now) table) }
+    own: &WordTable<V>,
+) -> Result<WordTable<Text>, NoMemory>
+    ensures { IfOk result (λ table. spec.AreNoted taxonomy.now.links own.now (filter_map relation_word forms.now) table) }
 {
-    let mut table = BTreeMap::new(alloc);
+    let mut table = HashMap::new(alloc);
     for located in forms {
-        let Some(word) = subject_of(located) else {
+        let Some(word) = relation_in(located) else {
             continue;
         };
         note(alloc, taxonomy, own, &mut table, word.bytes())?;
@@ -68,7 +68,7 @@ pub fn inherit<V: Drop>(
     alloc: Global,
     forms: &[Located],
     taxonomy: &Taxonomy,
-    own: BTreeMap<Vec<u8>, V>,
+    own: WordTable<V>,
 ) -> Result<Inherited<V>, NoMemory>
     requires { taxonomy.now.links ≡ links forms.now }
     ensures own { IfOk result (λ table. table.own ≡ own) }

@@ -2,6 +2,7 @@
 #![tactic(auto)]
 
 mod arities;
+mod below;
 mod forms;
 mod inherited;
 mod names;

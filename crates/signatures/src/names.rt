@@ -1,6 +1,7 @@
 //! Relation names.
-ghost use Rattle.std.specs.Prelude.{◌≡◌, filter, IfOk, OnOk};
+ghost use Rattle.std.specs.Prelude.{◌≡◌, ◌||◌, IfOk, OnOk};
 ghost use Rattle.kif_tree.specs.Shape as shape;
+ghost use Rattle.kif_tree.specs.Terms.{Bytes};
 ghost use Rattle.signatures.specs.Marks as spec;
 ghost use Rattle.signatures.specs.Names as names;
 ghost use Rattle.signatures.specs.Relations as relations;
@@ -9,11 +10,11 @@ ghost use Rattle.signatures.specs.Tables as tables;
 use crate::arities::{built_in, is_shown_head};
 use crate::inherited::Inherited;
 use crate::told::Arity;
-use crate::word_table::set;
+use crate::word_table::{WordTable, set};
 use kif_tree::{Form, Located, Text, is_headed};
 use sigma_base::NoMemory;
 use std::alloc::Global;
-use std::collections::BTreeMap;
+use std::collections::{BTreeMap, HashMap};
 
 /// The word's arity by a table of arities.
 pub fn arity_in(arities: &Inherited<Arity>, word: &[u8]) -> Arity
@@ -29,33 +30,34 @@ pub fn arity_in(arities: &Inherited<Arity>, word: &[u8]) -> Arity
 }
 
 /// A set of words.
-pub type Marks = BTreeMap<Vec<u8>, ()>;
+pub type Marks = WordTable<()>;
+
+/// A set of words in their order.
+pub type OrderedMarks = BTreeMap<Vec<u8>, ()>;
+
+/// Names that were found: a set to look in, and the same words in their order.
+#[derive(Debug, Drop)]
+pub struct Found {
+    seen: Marks,
+    ordered: OrderedMarks,
+}
 
 fn mark(alloc: Global, marks: &mut Marks, word: &[u8]) -> Result<(), NoMemory>
     ensures { OnOk result (spec.Marked (spec.is_word word.now) marks.old marks.new) }
 {
+    if marks.contains_key(word) {
+        return Ok(());
+    }
     set(alloc, marks, word, ())?;
     Ok(())
 }
 
-/// Marks the words that occur in the form.
-#[cycle(mark_words)]
-fn mark_words(alloc: Global, marks: &mut Marks, form: &Form) -> Result<(), NoMemory>
-    ensures { OnOk result (spec.Marked (spec.occurs_in form.now) marks.old marks.new) }
+fn mark_ordered(alloc: Global, marks: &mut OrderedMarks, word: &[u8]) -> Result<(), NoMemory>
+    ensures { OnOk result ((other : Bytes) → spec.has_ordered marks.new other ≡ (spec.has_ordered marks.old other || spec.is_word word.now other)) }
 {
-    match form {
-        Form::Word(text) => {
-            mark(alloc, marks, text.bytes())?;
-            Ok(())
-        }
-        Form::List(parts) => {
-            for part in parts.items() {
-                mark_words(alloc, marks, part)?;
-            }
-            Ok(())
-        }
-        _ => Ok(()),
-    }
+    let key = Vec::from_slice(alloc, word)?;
+    marks.insert(key, ())?;
+    Ok(())
 }
 
 /// Marks the word at the head of a list with these parts.
@@ -95,25 +97,11 @@ fn is_shown(form: &Form) -> bool
         || is_headed(form, b"format")
 }
 
-/// The words that occur in forms that aren't only shown.
-pub fn snapshot_words(alloc: Global, forms: &[Located]) -> Result<Marks, NoMemory>
-    ensures { IfOk result (λ marks. spec.AreMarked (relations.is_snapshot_word forms.now) marks) }
-{
-    let mut marks = BTreeMap::new(alloc);
-    for located in forms {
-        if is_shown(&located.form) {
-            continue;
-        }
-        mark_words(alloc, &mut marks, &located.form)?;
-    }
-    Ok(marks)
-}
-
 /// The words at the head of a list.
 pub fn heads(alloc: Global, forms: &[Located]) -> Result<Marks, NoMemory>
     ensures { IfOk result (λ marks. spec.AreMarked (relations.heads_a_list forms.now) marks) }
 {
-    let mut marks = BTreeMap::new(alloc);
+    let mut marks = HashMap::new(alloc);
     for located in forms {
         mark_heads(alloc, &mut marks, &located.form)?;
     }
@@ -157,22 +145,84 @@ fn is_name(heads: &Marks, arities: &Inherited<Arity>, word: &[u8]) -> bool
     is_stated(arity_in(arities, word))
 }
 
-/// The relation names among the words, in their order.
-pub fn names_among(
+/// Adds the word, where it is a name and isn't there yet.
+fn add_name(
     alloc: Global,
-    words: Marks,
+    found: &mut Found,
     heads: &Marks,
     arities: &Inherited<Arity>,
-) -> Result<Vec<Text>, NoMemory>
-    ensures names { IfOk result (λ found. found.items ≡ filter (names.is_name heads.now arities.now) (spec.key_words words)) }
+    word: &[u8],
+) -> Result<(), NoMemory>
+    ensures { OnOk result (names.AddsNames heads.now arities.now (spec.is_word word.now) found.old found.new) }
+{
+    if found.seen.contains_key(word) {
+        return Ok(());
+    }
+    if !is_name(heads, arities, word) {
+        return Ok(());
+    }
+    set(alloc, &mut found.seen, word, ())?;
+    mark_ordered(alloc, &mut found.ordered, word)?;
+    Ok(())
+}
+
+/// Adds the names that occur in the form.
+#[cycle(add_names)]
+fn add_names(
+    alloc: Global,
+    found: &mut Found,
+    heads: &Marks,
+    arities: &Inherited<Arity>,
+    form: &Form,
+) -> Result<(), NoMemory>
+    ensures { OnOk result (names.AddsNames heads.now arities.now (names.occurs_in form.now) found.old found.new) }
+{
+    match form {
+        Form::Word(text) => {
+            add_name(alloc, found, heads, arities, text.bytes())?;
+            Ok(())
+        }
+        Form::List(parts) => {
+            for part in parts.items() {
+                add_names(alloc, found, heads, arities, part)?;
+            }
+            Ok(())
+        }
+        _ => Ok(()),
+    }
+}
+
+/// The names that occur in forms that aren't only shown.
+pub fn names_of(
+    alloc: Global,
+    forms: &[Located],
+    heads: &Marks,
+    arities: &Inherited<Arity>,
+) -> Result<OrderedMarks, NoMemory>
+    ensures { IfOk result (names.AreNames heads.now arities.now (relations.is_snapshot_word forms.now)) }
+{
+    let mut found = Found {
+        seen: HashMap::new(alloc),
+        ordered: BTreeMap::new(alloc),
+    };
+    for located in forms {
+        if is_shown(&located.form) {
+            continue;
+        }
+        add_names(alloc, &mut found, heads, arities, &located.form)?;
+    }
+    let Found { ordered, .. } = found;
+    Ok(ordered)
+}
+
+/// The words in their order.
+pub fn in_order(alloc: Global, words: OrderedMarks) -> Result<Vec<Text>, NoMemory>
+    ensures names { IfOk result (λ found. found.items ≡ spec.key_words words) }
     ensures ascending { IfOk result (λ _. relations.AreAscending (spec.key_words words)) }
 {
     let mut words = words;
     let mut found = Vec::with_capacity(alloc, words.len())?;
     while let Some((word, _)) = words.pop_first() {
-        if !is_name(heads, arities, word.as_slice()) {
-            continue;
-        }
         found.push(Text::of_bytes(word))?;
     }
     Ok(found)

@@ -7,10 +7,10 @@ ghost use Rattle.signatures.specs.Layers as spec;
 ghost use Rattle.signatures.specs.Nearest.{IsNearest, NoneReached};
 ghost use Rattle.kif_tree.specs.Shape as shape;
 
+use crate::word_table::WordTable;
 use kif_tree::Text;
 use sigma_base::{Listed, NoMemory};
 use std::alloc::Global;
-use std::collections::BTreeMap;
 use taxonomy::{ChainKind, Taxonomy, Told};
 
 /// Whether the word is one of these.
@@ -103,7 +103,7 @@ fn is_earlier(word: &Text, other: Option<&Text>) -> bool
 }
 
 /// The first by bytes of the words that have a value.
-fn first_with_value<'a, V>(own: &BTreeMap<Vec<u8>, V>, words: &'a [Text]) -> Option<&'a Text>
+fn first_with_value<'a, V>(own: &WordTable<V>, words: &'a [Text]) -> Option<&'a Text>
     ensures { MatchOption result (Each (λ word. Has own.now word → ⊥) words.now) (λ first. spec.IsFirst (Has own.now) words.now first.now) }
 {
     let mut first: Option<&'a Text> = None;
@@ -123,7 +123,7 @@ fn first_with_value<'a, V>(own: &BTreeMap<Vec<u8>, V>, words: &'a [Text]) -> Opt
 pub fn nearest<V>(
     alloc: Global,
     taxonomy: &Taxonomy,
-    own: &BTreeMap<Vec<u8>, V>,
+    own: &WordTable<V>,
     word: &[u8],
 ) -> Result<Option<Text>, NoMemory>
     requires { find own.now word.now ≡ None }

@@ -7,13 +7,13 @@ ghost use Rattle.signatures.specs.Tables as spec;
 use crate::arities::own_arities;
 use crate::forms::argument_in;
 use crate::inherited::{Inherited, inherit};
-use crate::names::{arity_in, heads, names_among, snapshot_words};
+use crate::names::{arity_in, heads, in_order, names_of};
 use crate::told::{Arity, TypeTold};
 use crate::types::{own_types, ranges};
+use crate::word_table::WordTable;
 use kif_tree::{Located, Text};
 use sigma_base::{Listed, NoMemory};
 use std::alloc::Global;
-use std::collections::BTreeMap;
 use taxonomy::Taxonomy;
 
 /// The types of the arguments that have one number.
@@ -28,7 +28,7 @@ struct ArgumentTypes {
 pub struct Signatures {
     arities: Inherited<Arity>,
     types: Vec<ArgumentTypes>,
-    ranges: BTreeMap<Vec<u8>, Listed<TypeTold>>,
+    ranges: WordTable<Listed<TypeTold>>,
     relations: Vec<Text>,
 }
 
@@ -111,9 +111,9 @@ impl Signatures {
         let arities = inherit(alloc, forms, taxonomy, own)?;
         let types = argument_types(alloc, forms, taxonomy)?;
         let ranges = ranges(alloc, forms)?;
-        let words = snapshot_words(alloc, forms)?;
         let heads = heads(alloc, forms)?;
-        let relations = names_among(alloc, words, &heads, &arities)?;
+        let names = names_of(alloc, forms, &heads, &arities)?;
+        let relations = in_order(alloc, names)?;
         Ok(Signatures {
             arities,
             types,

@@ -7,14 +7,14 @@ ghost use Rattle.signatures.specs.WordTables.{find};
 
 use crate::forms::{argument_in, pair_in};
 use crate::told::TypeTold;
-use crate::word_table::set;
+use crate::word_table::{WordTable, set};
 use kif_tree::{Located, Place, Text};
 use sigma_base::{Listed, NoMemory};
 use std::alloc::Global;
-use std::collections::BTreeMap;
+use std::collections::HashMap;
 
 /// The types that are told of each word.
-pub type Types = BTreeMap<Vec<u8>, Listed<TypeTold>>;
+pub type Types = WordTable<Listed<TypeTold>>;
 
 /// A type that a form tells of a word.
 #[derive(Clone, Copy, Debug)]
@@ -102,7 +102,7 @@ fn add(alloc: Global, table: &mut Types, found: Option<FoundType<'_>>) -> Result
 pub fn own_types(alloc: Global, forms: &[Located], number: u32) -> Result<Types, NoMemory>
     ensures { IfOk result (λ table. spec.AreToldTypes (spec.type_at number) forms.now table) }
 {
-    let mut table = BTreeMap::new(alloc);
+    let mut table = HashMap::new(alloc);
     for located in forms {
         add(alloc, &mut table, type_in(located, number))?;
     }
@@ -113,7 +113,7 @@ pub fn own_types(alloc: Global, forms: &[Located], number: u32) -> Result<Types,
 pub fn ranges(alloc: Global, forms: &[Located]) -> Result<Types, NoMemory>
     ensures { IfOk result (λ table. spec.AreToldTypes spec.range_at forms.now table) }
 {
-    let mut table = BTreeMap::new(alloc);
+    let mut table = HashMap::new(alloc);
     for located in forms {
         add(alloc, &mut table, range_in(located))?;
     }

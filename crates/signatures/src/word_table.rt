@@ -4,12 +4,15 @@ ghost use Rattle.signatures.specs.WordTables as spec;
 
 use sigma_base::NoMemory;
 use std::alloc::Global;
-use std::collections::BTreeMap;
+use std::collections::HashMap;
+
+/// Words, each with its value.
+pub type WordTable<V> = HashMap<Vec<u8>, V>;
 
 /// Gives the word the value in the table.
 pub fn set<V: Drop>(
     alloc: Global,
-    table: &mut BTreeMap<Vec<u8>, V>,
+    table: &mut WordTable<V>,
     word: &[u8],
     value: V,
 ) -> Result<(), NoMemory>

@@ -1,16 +1,16 @@
-use Rattle.std.proofs.Common.{◌∷◌, codes}
-use Rattle.signatures.specs.Arities.{gives}
+use Rattle.std.proofs.Common.{[], ◌∷◌, ◌++◌, codes}
+use Rattle.signatures.specs.Arities.{gives, function_classes}
 use Rattle.signatures.specs.declared.told.Arity.TheVariants.{Exactly}
 use Rattle.signatures.proofs.arities.or_by_relation.Goals as goal
 
 pub returns : goal.returns
-returns c = λ classes h.
-    let from_8 = gives (codes "QuintaryRelation") (Exactly 5) ∷ classes in
-    let from_7 = gives (codes "QuintaryPredicate") (Exactly 5) ∷ from_8 in
-    let from_6 = gives (codes "QuaternaryRelation") (Exactly 4) ∷ from_7 in
-    let from_5 = gives (codes "QuaternaryPredicate") (Exactly 4) ∷ from_6 in
-    let from_4 = gives (codes "TernaryRelation") (Exactly 3) ∷ from_5 in
-    let from_3 = gives (codes "TernaryPredicate") (Exactly 3) ∷ from_4 in
-    let from_2 = gives (codes "BinaryRelation") (Exactly 2) ∷ from_3 in
-    c.or_by.ensures from_2
-    (c.or_by-rest-7.ensures from_3 (c.or_by-rest-6.ensures from_4 (c.or_by-rest-5.ensures from_5 (c.or_by-rest-4.ensures from_6 (c.or_by-rest-3.ensures from_7 (c.or_by-rest-2.ensures from_8 (c.or_by-rest.ensures classes h)))))))
+returns c =
+    let to_1 = function_classes ++ gives (codes "BinaryPredicate") (Exactly 2) ∷ [] in
+    let to_2 = to_1 ++ gives (codes "BinaryRelation") (Exactly 2) ∷ [] in
+    let to_3 = to_2 ++ gives (codes "TernaryPredicate") (Exactly 3) ∷ [] in
+    let to_4 = to_3 ++ gives (codes "TernaryRelation") (Exactly 3) ∷ [] in
+    let to_5 = to_4 ++ gives (codes "QuaternaryPredicate") (Exactly 4) ∷ [] in
+    let to_6 = to_5 ++ gives (codes "QuaternaryRelation") (Exactly 4) ∷ [] in
+    let to_7 = to_6 ++ gives (codes "QuintaryPredicate") (Exactly 5) ∷ [] in
+    c.or_by.ensures to_7
+    (c.or_by-found-7.ensures to_6 (c.or_by-found-6.ensures to_5 (c.or_by-found-5.ensures to_4 (c.or_by-found-4.ensures to_3 (c.or_by-found-3.ensures to_2 (c.or_by-found-2.ensures to_1 (c.or_by-found.ensures function_classes c.requires)))))))

@@ -1,4 +1,4 @@
-use Rattle.std.proofs.Common.{ℕ, ◌≡◌, ◌*◌, ◌+◌, ◌-◌, ◌<◌, get_or, refl, arith}
+use Rattle.std.proofs.Common.{◌*◌, ◌+◌, ◌-◌, ◌<◌, get_or, refl, arith}
 use Rattle.signatures.proofs.FormLaws.{digit_from, value_step, value_bound}
 use Rattle.signatures.proofs.forms.value_of.Goals as goal
 

@@ -1,4 +1,4 @@
-use Rattle.std.proofs.Common.{[], ap, sym, ◌∙◌, List}
+use Rattle.std.proofs.Common.{[], ap, ◌∙◌, List}
 use Rattle.std.specs.Prelude.{Option, unwrap_or}
 use Rattle.signatures.specs.declared.told.TypeTold.{TypeTold}
 use Rattle.signatures.proofs.ArgumentLaws.{types_found, types_missing}

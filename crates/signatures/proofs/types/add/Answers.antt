@@ -1,4 +1,3 @@
-use Rattle.std.proofs.Common.{refl}
 use Rattle.signatures.proofs.TypeLaws.{adds_by}
 use Rattle.signatures.proofs.types.add.Goals as goal
 

@@ -1,0 +1,7 @@
+use Rattle.signatures.proofs.NameLaws.{form_names}
+use Rattle.signatures.proofs.names.names_of.Goals as goal
+
+pub loop-located-preserved : goal.loop-located-preserved
+loop-located-preserved c =
+    form_names c.args.heads.now c.args.arities.now c.loop-located.found c.add_names.new.found c.args.forms.now c.loop-located.located-index c.located-item.result c.is_shown.result c.loop-located-test.true c.located-item.is c.is_shown.ensures
+    c.if-is_shown.false c.loop-located.invariant c.in_ok-add_names.ensures
