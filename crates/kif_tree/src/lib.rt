@@ -14,6 +14,8 @@ mod subst;
 mod terms;
 #[cfg(test)]
 mod tests;
+#[cfg(test)]
+mod tests_profile;
 mod text;
 
 pub use clause::{Clause, InputClause, Literal};
