@@ -1,6 +1,8 @@
 pub mod ClauseLaws
 pub mod HeadLaws
+pub mod NameLaws
 pub mod PrintLaws
+pub mod ProfileLaws
 pub mod ShapeLaws
 pub mod SubstLaws
 pub mod TermLaws

@@ -4,6 +4,7 @@ pub mod Laws
 pub mod Names
 pub mod Places
 pub mod Printed
+pub mod Profile
 pub mod SameLaws
 pub mod Shape
 pub mod Subst

@@ -8,11 +8,14 @@ mod heads;
 mod laws;
 mod place;
 mod print;
+mod profile;
 mod shape;
 mod subst;
 mod terms;
 #[cfg(test)]
 mod tests;
+#[cfg(test)]
+mod tests_profile;
 mod text;
 mod word_set;
 
@@ -23,6 +26,7 @@ pub use heads::{is_answer, is_headed};
 pub use laws::{agreement_law, composition_law, equality_law, ground_law};
 pub use place::{LoadName, Located, Place};
 pub use print::{print_clause, print_form, print_place};
+pub use profile::in_profile;
 pub use shape::{first_fault_in, has_word, is_shaped};
 pub use subst::{Pair, Subst, Unnamed, fill, followed_by, ground_instance, substitute};
 pub use terms::{depth, has_no_row, is_ground, occurs, symbols, variables_in, variables_of};

@@ -154,13 +154,13 @@ fn takes(word: &[u8], arguments: &[Form]) -> bool
     }
 }
 
-fn is_quantifying(word: &[u8]) -> bool
+pub(crate) fn is_quantifying(word: &[u8]) -> bool
     ensures { result ≡ spec.is_among spec.quantifiers word.now }
 {
     word == b"forall".as_slice() || word == b"exists".as_slice()
 }
 
-fn is_quantifier(head: &Form) -> bool
+pub(crate) fn is_quantifier(head: &Form) -> bool
     ensures { result ≡ spec.is_quantifier head.now }
 {
     match head {
@@ -169,7 +169,7 @@ fn is_quantifier(head: &Form) -> bool
     }
 }
 
-fn binds(arguments: &[Form]) -> bool
+pub(crate) fn binds(arguments: &[Form]) -> bool
     ensures { result ≡ spec.binds arguments.now }
 {
     let [names, _] = arguments else {
@@ -181,7 +181,7 @@ fn binds(arguments: &[Form]) -> bool
     }
 }
 
-fn lists_names(parts: &[Form]) -> bool
+pub(crate) fn lists_names(parts: &[Form]) -> bool
     ensures { result ≡ spec.lists_names parts.now }
 {
     for part in parts {

@@ -9,12 +9,16 @@ use std::test::Fail;
 // ---- fixtures: `?X` spells a variable, `@R` a row variable, `"s` a string, a digit begins a numeral
 
 fn leaf(alloc: Global, spelled: &str) -> Result<Form, NoMemory> {
-    match spelled.as_bytes() {
+    leaf_of(alloc, spelled.as_bytes())
+}
+
+pub(crate) fn leaf_of(alloc: Global, spelled: &[u8]) -> Result<Form, NoMemory> {
+    match spelled {
         [b'?', name @ ..] => Ok(Form::Variable(Text::of(alloc, name)?)),
         [b'@', name @ ..] => Ok(Form::Row(Text::of(alloc, name)?)),
         [b'"', text @ ..] => Ok(Form::Quoted(Text::of(alloc, text)?)),
-        [b'0'..=b'9', ..] => Ok(Form::Numeral(Text::of(alloc, spelled.as_bytes())?)),
-        _ => Ok(Form::Word(Text::of(alloc, spelled.as_bytes())?)),
+        [b'0'..=b'9', ..] => Ok(Form::Numeral(Text::of(alloc, spelled)?)),
+        _ => Ok(Form::Word(Text::of(alloc, spelled)?)),
     }
 }
 

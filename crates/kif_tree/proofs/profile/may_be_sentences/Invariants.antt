@@ -1,0 +1,7 @@
+use Rattle.std.proofs.Common.{◌≡◌, true, take}
+use Rattle.std.specs.List.{list_all}
+use Rattle.kif_tree.specs.Profile as spec
+use Rattle.kif_tree.proofs.profile.may_be_sentences.Given as goal
+
+abbrev pub invariant-loop-form : goal.invariant-loop-form
+invariant-loop-form l = list_all spec.may_be_sentence (take l.form-index l.forms) ≡ true
