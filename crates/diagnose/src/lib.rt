@@ -3,6 +3,7 @@
 
 mod diagnostic;
 mod list;
+mod words;
 
 pub use diagnostic::Diagnostic;
 pub use list::diagnose;
