@@ -1,0 +1,3 @@
+pub mod NewWordLaws
+pub mod WordFaultLaws
+pub mod WordTableLaws
