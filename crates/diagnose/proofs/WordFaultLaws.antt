@@ -83,9 +83,9 @@ disjoint_one taxonomy located word a b c e term by xs ys second is_a is_b is_c i
       is = refl;
     })
     (λ d i.
-      let same : i.word ≡ word = same_word (second_word located.form) i.word word i.second second in
-      i.is ∙ ap (with_by located.place i.by) same
-      ∙ ap (λ (p : Place). with_by located.place p word) (by_one taxonomy word word i.by by (subst (λ (w : Bytes). AreDisjointBy taxonomy w w i.by) same i.disjoint) apart))
+    let same : i.word ≡ word = same_word (second_word located.form) i.word word i.second second in
+    i.is ∙ ap (with_by located.place i.by) same
+    ∙ ap (λ (p : Place). with_by located.place p word) (by_one taxonomy word word i.by by (subst (λ (w : Bytes). AreDisjointBy taxonomy w w i.by) same i.disjoint) apart))
   where
     apart : AreDisjointBy taxonomy word word by
     apart = subst (λ (w : Bytes). AreDisjointBy taxonomy w word by) is_c (subst (λ (w : Bytes). AreDisjointBy taxonomy c w by) is_e disjoint)
@@ -273,7 +273,6 @@ text_occurs f word = induction (λ f. word_text f ≡ Some word → has_word wor
     other : (g : Form) → ((t : Bytes) → g ≡ form.Word t → ⊥) → word_text g ≡ Some word → has_word word g ≡ true
     other g no_word e = let none : word_text g ≡ None = text_of_other g no_word in absurd (cc)
 
-
 second_occurs : (f : Form) (word : Bytes) → second_word f ≡ Some word → has_word word f ≡ true
 second_occurs f word = induction (λ f. second_word f ≡ Some word → has_word word f ≡ true) (record {
   word = λ text e. none (ap second_text (ap parts_layer (form.outs-Word text))) e;
@@ -386,56 +385,81 @@ module _ (before : List Located) (located : Located) (after : List Located) (tax
 
       go : Fault i.word d → Wrong d
       go (inl (lacks, is)) =
-          let e = both (is_plain i.word) (not (bytes_eq i.word (codes "Entity")) && nat_eq (length (parents taxonomy.links i.word)) 0) lacks in
-          let f = both (not (bytes_eq i.word (codes "Entity"))) (nat_eq (length (parents taxonomy.links i.word)) 0) e.1 in
-          subst Wrong (sym is) (refl, inl (refl, record {
-            plain = plain_word forms i.word occurs e.0;
-            not_entity = not_same i.word (codes "Entity") f.0;
-            no_parent = sym (parents_as i.word) ∙ no_told (parents taxonomy.links i.word) f.1;
-            first = first;
-            alone = refl;
-          }))
+          let e = both (nat_eq (length (parents taxonomy.links i.word)) 0) (not (bytes_eq i.word (codes "Entity")) && is_plain i.word) lacks in
+          let f = both (not (bytes_eq i.word (codes "Entity"))) (is_plain i.word) e.1 in
+          subst Wrong (sym is) (
+            refl,
+            inl (
+              refl,
+              record {
+                plain = plain_word forms i.word occurs f.1;
+                not_entity = not_same i.word (codes "Entity") f.0;
+                no_parent = sym (parents_as i.word) ∙ no_told (parents taxonomy.links i.word) e.0;
+                first = first;
+                alone = refl;
+              },
+            ),
+          )
       go (inr (inl (lacks, is))) =
-          let e = both (is_plain i.word) (not (is_among tables.documented i.word)) lacks in
-          subst Wrong (sym is) (refl, inr (inl (refl, record {
-            plain = plain_word forms i.word occurs e.0;
-            undocumented = sym (same_bool (is_among tables.documented i.word) (list_any (documents i.word) forms) (stands.documented i.word)) ∙ denied (is_among tables.documented i.word) e.1;
-            first = first;
-            alone = refl;
-          })))
+          let e = both (not (is_among tables.documented i.word)) (is_plain i.word) lacks in
+          subst Wrong (sym is) (
+            refl,
+            inr (inl (
+              refl,
+              record {
+                plain = plain_word forms i.word occurs e.1;
+                undocumented = sym (same_bool (is_among tables.documented i.word) (list_any (documents i.word) forms) (stands.documented i.word)) ∙ denied (is_among tables.documented i.word) e.0;
+                first = first;
+                alone = refl;
+              },
+            )),
+          )
       go (inr (inr (lacks, is))) =
           let u = (stands.unstated i.word).0 lacks in
-          subst Wrong (sym is) (refl, inr (inr (inr (refl, record {
-            name = u.0;
-            unstated = u.1;
-            first = first;
-            alone = refl;
-          }))))
+          subst Wrong (sym is) (
+            refl,
+            inr (inr (inr (
+              refl,
+              record {
+                name = u.0;
+                unstated = u.1;
+                first = first;
+                alone = refl;
+              },
+            ))),
+          )
 
   wrong_disjoint : (d : Diagnostic) → IsDisjoint taxonomy located d → Wrong d
-  wrong_disjoint d i = subst Wrong (sym i.is) (refl, inr (inr (inl (refl, record {
-    plain = plain_word forms i.word (occurs_here i.word (second_occurs located.form i.word i.second)) i.plain;
-    told = i.first.told;
-    more = i.first.more;
-    has_parent = sym (parents_as i.word) ∙ i.first.has_parent;
-    at = sym i.first.at;
-    by = i.by;
-    disjoint = subst (λ (t : ToldTaxonomy). AreDisjointBy t i.word i.word i.by) stands.told i.disjoint;
-    names = refl;
-  }))))
+  wrong_disjoint d i = subst Wrong (sym i.is) (
+    refl,
+    inr (inr (inl (
+      refl,
+      record {
+        plain = plain_word forms i.word (occurs_here i.word (second_occurs located.form i.word i.second)) i.plain;
+        told = i.first.told;
+        more = i.first.more;
+        has_parent = sym (parents_as i.word) ∙ i.first.has_parent;
+        at = sym i.first.at;
+        by = i.by;
+        disjoint = subst (λ (t : ToldTaxonomy). AreDisjointBy t i.word i.word i.by) stands.told i.disjoint;
+        names = refl;
+      },
+    ))),
+  )
 
   split_wrong : (d : Diagnostic) → Wrong d → IsNew Fault seen (occurs_in located.form) d ⊎ IsDisjoint taxonomy located d
   split_wrong d (at, inl (is, h)) =
-      inl (new_by d at h.first (inl
-      (join (is_plain d.term) (not (bytes_eq d.term (codes "Entity")) && nat_eq (length (parents taxonomy.links d.term)) 0) (plain_back forms d.term h.plain)
-      (join (not (bytes_eq d.term (codes "Entity"))) (nat_eq (length (parents taxonomy.links d.term)) 0) (apart d.term (codes "Entity") h.not_entity)
-      (ap (λ (ps : List Told). nat_eq (length ps) 0) (parents_as d.term ∙ h.no_parent))),
-      rebuilt d 1 located.place None is at h.alone)))
+      inl (new_by d at h.first (inl (
+        join (nat_eq (length (parents taxonomy.links d.term)) 0) (not (bytes_eq d.term (codes "Entity")) && is_plain d.term) (ap (λ (ps : List Told). nat_eq (length ps) 0) (parents_as d.term ∙ h.no_parent))
+            (join (not (bytes_eq d.term (codes "Entity"))) (is_plain d.term) (apart d.term (codes "Entity") h.not_entity) (plain_back forms d.term h.plain)),
+        rebuilt d 1 located.place None is at h.alone,
+      )))
   split_wrong d (at, inr (inl (is, h))) =
-      inl (new_by d at h.first (inr (inl
-      (join (is_plain d.term) (not (is_among tables.documented d.term)) (plain_back forms d.term h.plain)
-      (ap not (same_bool (is_among tables.documented d.term) (list_any (documents d.term) forms) (stands.documented d.term) ∙ h.undocumented)),
-      rebuilt d 2 located.place None is at h.alone))))
+      inl (new_by d at h.first (inr (inl (
+        join (not (is_among tables.documented d.term)) (is_plain d.term)
+            (ap not (same_bool (is_among tables.documented d.term) (list_any (documents d.term) forms) (stands.documented d.term) ∙ h.undocumented)) (plain_back forms d.term h.plain),
+        rebuilt d 2 located.place None is at h.alone,
+      ))))
   split_wrong d (at, inr (inr (inl (is, h)))) =
       let t = first_teller forms d.term h.told h.more h.has_parent in
       let same : t.located ≡ located =

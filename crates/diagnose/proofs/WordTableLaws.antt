@@ -211,9 +211,10 @@ unstated_by forms signatures words h are = λ word. (to word, from word)
   where
     to : (word : Bytes) → is_among words word ≡ true → IsUnstated forms word
     to word a =
-        let e = both (is_among (relations_in signatures) word) (is_unstated (arity_in signatures word)) (sym (h word) ∙ a) in
-        ((are.relations.exactly word).0 (among_contains (relations_in signatures) word e.0),
-        subst (IsArity forms word) (unstated_one (arity_in signatures word) e.1) (are.arities word))
+        let e = both (is_among (relations_in signatures) word) (is_unstated (arity_in signatures word)) (sym (h word) ∙ a) in (
+          (are.relations.exactly word).0 (among_contains (relations_in signatures) word e.0),
+          subst (IsArity forms word) (unstated_one (arity_in signatures word) e.1) (are.arities word),
+        )
 
     from : (word : Bytes) → IsUnstated forms word → is_among words word ≡ true
     from word u =

@@ -132,13 +132,13 @@ fn is_plain(word: &[u8]) -> bool
 fn lacks_parent(taxonomy: &Taxonomy, word: &[u8]) -> bool
     ensures { result ≡ spec.lacks_parent taxonomy.now word.now }
 {
-    is_plain(word) && word != b"Entity".as_slice() && taxonomy.parents(word).is_empty()
+    taxonomy.parents(word).is_empty() && word != b"Entity".as_slice() && is_plain(word)
 }
 
 fn lacks_documentation(tables: &WordTables, word: &[u8]) -> bool
     ensures { result ≡ spec.lacks_documentation tables.now word.now }
 {
-    is_plain(word) && !tables.documented.has(word)
+    !tables.documented.has(word) && is_plain(word)
 }
 
 /// Adds a diagnostic of the word, if it is wrong.
