@@ -1,3 +1,7 @@
-pub mod NewWordLaws
-pub mod WordFaultLaws
-pub mod WordTableLaws
+pub mod OrderLaws
+pub mod FoundLaws
+mod FreeLaws
+mod VariableLaws
+mod NewWordLaws
+mod WordFaultLaws
+mod WordTableLaws

@@ -1,10 +1,8 @@
 -- What was added, and words that are new at a form.
-use Rattle.std.proofs.Common.{◌≡◌, ℕ, suc, zero, ◌+◌, ◌<◌, ◌≤◌, ◌⊎◌, ◌||◌, List, [], ◌∷◌, ◌++◌, length, get_or, take, Bool, true, false, refl, sym, ap, ap₂, subst, ◌∙◌, arith, inl, inr}
-use Rattle.std.specs.Prelude.{Contains}
+use Rattle.std.proofs.Common.{◌≡◌, ℕ, ◌+◌, ◌<◌, ◌≤◌, ◌⊎◌, ◌||◌, List, length, get_or, take, Bool, true, false, refl, sym, ap, ap₂, subst, ◌∙◌, inl, inr}
 use Rattle.std.specs.List.{list_any}
 use Rattle.std.specs.Str.{bytes_eq}
 use Rattle.std.proofs.lemmas.List.{take_all}
-use Rattle.std.proofs.lemmas.List.Elements.{Contains-append_left, Contains-append_right, Contains-append_cases}
 use Rattle.std.proofs.lemmas.List.Folds.{list_any_more}
 use Rattle.std.proofs.lemmas.Slice.Eq.{bytes_eq-Decides}
 use Rattle.kif_tree.specs.Shape.{is_among, has_word}
@@ -17,56 +15,17 @@ use Rattle.taxonomy.specs.Told.{ToldTaxonomy}
 use Rattle.diagnose.specs.declared.diagnostic.Diagnostic.{Diagnostic}
 use Rattle.diagnose.specs.declared.words.WordTables.{WordTables}
 use Rattle.diagnose.specs.Found.{Adds}
+use Rattle.diagnose.proofs.FoundLaws.{adds_none, adds_same, adds_both}
 use Rattle.diagnose.specs.WordFaults.{lacks_parent, lacks_documentation, of_word, IsFault, Gains, IsNew, is_word, occurs_in}
 
--- ---- what was added
-
-pub adds_none : (P : Diagnostic → Type 0) (xs : List Diagnostic) → ((d : Diagnostic) → P d → ⊥) → Adds P xs xs
-adds_none P xs none = record { kept = λ d h. h; added = λ d p. absurd (none d p); only = λ d h. inl h }
-
-pub adds_one : (P : Diagnostic → Type 0) (xs ys : List Diagnostic) (x : Diagnostic) → ys ≡ xs ++ x ∷ [] → P x → ((d : Diagnostic) → P d → d ≡ x) → Adds P xs ys
-adds_one P xs ys x is px one = record {
-  kept = λ d h. subst (λ (l : List Diagnostic). Contains l d) (sym is) (Contains-append_left xs (x ∷ []) d h);
-  added = λ d p. subst (λ (l : List Diagnostic). Contains l d) (sym is) (Contains-append_right xs (x ∷ []) d (subst (Contains (x ∷ [])) (sym (one d p)) here));
-  only = λ d h. last d (Contains-append_cases xs (x ∷ []) d (subst (λ (l : List Diagnostic). Contains l d) is h));
-}
-  where
-    here : Contains (x ∷ []) x
-    here = (zero, omega arith, refl)
-
-    alone : (d : Diagnostic) → Contains (x ∷ []) d → P d
-    alone d (zero, lt, same) = subst P same px
-    alone d (suc n, lt, same) = absurd (omega (arith, lt))
-
-    last : (d : Diagnostic) → Contains xs d ⊎ Contains (x ∷ []) d → Contains xs d ⊎ P d
-    last d (inl h) = inl h
-    last d (inr h) = inr (alone d h)
+-- ---- what was added in turn
 
 pub adds_then : (P Q R : Diagnostic → Type 0) (xs ys zs : List Diagnostic) → Adds P xs ys → Adds Q ys zs → ((d : Diagnostic) → R d → P d ⊎ Q d) → ((d : Diagnostic) → P d → R d) → ((d : Diagnostic) → Q d → R d) → Adds R xs zs
-adds_then P Q R xs ys zs first next split left right = record {
-  kept = λ d h. next.kept d (first.kept d h);
-  added = λ d r. into d (split d r);
-  only = λ d h. from d (next.only d h);
-}
+adds_then P Q R xs ys zs first next split left right = adds_same (λ d. P d ⊎ Q d) R xs zs into split (adds_both P Q xs ys zs first next)
   where
-    into : (d : Diagnostic) → P d ⊎ Q d → Contains zs d
-    into d (inl p) = next.kept d (first.added d p)
-    into d (inr q) = next.added d q
-
-    earlier : (d : Diagnostic) → Contains xs d ⊎ P d → Contains xs d ⊎ R d
-    earlier d (inl h) = inl h
-    earlier d (inr p) = inr (left d p)
-
-    from : (d : Diagnostic) → Contains ys d ⊎ Q d → Contains xs d ⊎ R d
-    from d (inl h) = earlier d (first.only d h)
-    from d (inr q) = inr (right d q)
-
-pub adds_as : (P Q : Diagnostic → Type 0) (xs ys : List Diagnostic) → Adds P xs ys → ((d : Diagnostic) → P d → Q d) → ((d : Diagnostic) → Q d → P d) → Adds Q xs ys
-adds_as P Q xs ys h to back = record { kept = h.kept; added = λ d q. h.added d (back d q); only = λ d c. from d (h.only d c) }
-  where
-    from : (d : Diagnostic) → Contains xs d ⊎ P d → Contains xs d ⊎ Q d
-    from d (inl c) = inl c
-    from d (inr p) = inr (to d p)
+    into : (d : Diagnostic) → P d ⊎ Q d → R d
+    into d (inl p) = left d p
+    into d (inr q) = right d q
 
 -- ---- what is missing of one word
 
@@ -110,14 +69,14 @@ neither true b h = absurd (cc)
 neither false b h = (refl, h)
 
 pub new_one : (F : Bytes → Diagnostic → Type 0) (old : List Bytes) (word : Bytes) (xs ys : List Diagnostic) → is_among old word ≡ false → Adds (F word) xs ys → Adds (IsNew F old (is_word word)) xs ys
-new_one F old word xs ys new h = adds_as (F word) (IsNew F old (is_word word)) xs ys h
+new_one F old word xs ys new h = adds_same (F word) (IsNew F old (is_word word)) xs ys
     (λ d f. record { word = word; new = new; has = (bytes_eq-Decides word word).1 refl; fault = f })
-    (λ d i. subst (λ (w : Bytes). F w d) ((bytes_eq-Decides i.word word).0 i.has) i.fault)
+    (λ d i. subst (λ (w : Bytes). F w d) ((bytes_eq-Decides i.word word).0 i.has) i.fault) h
 
 pub new_as : (F : Bytes → Diagnostic → Type 0) (old : List Bytes) (test other : Bytes → Bool) (xs ys : List Diagnostic) → ((word : Bytes) → test word ≡ other word) → Adds (IsNew F old test) xs ys → Adds (IsNew F old other) xs ys
-new_as F old test other xs ys same h = adds_as (IsNew F old test) (IsNew F old other) xs ys h
+new_as F old test other xs ys same h = adds_same (IsNew F old test) (IsNew F old other) xs ys
     (λ d i. record { word = i.word; new = i.new; has = sym (same i.word) ∙ i.has; fault = i.fault })
-    (λ d i. record { word = i.word; new = i.new; has = same i.word ∙ i.has; fault = i.fault })
+    (λ d i. record { word = i.word; new = i.new; has = same i.word ∙ i.has; fault = i.fault }) h
 
 pub new_none : (F : Bytes → Diagnostic → Type 0) (old : List Bytes) (test : Bytes → Bool) (xs : List Diagnostic) → ((word : Bytes) → test word ≡ false) → Adds (IsNew F old test) xs xs
 new_none F old test xs none = adds_none (IsNew F old test) xs (λ d i. let e : true ≡ false = sym i.has ∙ none i.word in absurd (cc))

@@ -1,5 +1,5 @@
 -- What is wrong with words at a form.
-use Rattle.std.proofs.Common.{◌≡◌, ◌≢◌, ℕ, suc, zero, ◌+◌, ◌<◌, ◌≤◌, ◌⊎◌, ◌||◌, ◌&&◌, List, [], ◌∷◌, ◌++◌, length, get_or, map, filter, Bool, true, false, not, refl, sym, ap, ap₂, subst, ◌∙◌, arith, inl, inr, if◌then◌else◌}
+use Rattle.std.proofs.Common.{◌≡◌, ◌≢◌, ℕ, suc, zero, ◌⊎◌, ◌||◌, ◌&&◌, List, [], ◌∷◌, ◌++◌, length, map, filter, Bool, true, false, not, refl, sym, ap, ap₂, subst, ◌∙◌, arith, inl, inr, if◌then◌else◌}
 use Rattle.std.specs.Prelude.{Option, Some, None, Contains, codes, is_none, nat_eq, ◌↔◌}
 use Rattle.std.specs.List.{list_any, filter_map, cons_option}
 use Rattle.std.specs.Str.{bytes_eq}
@@ -18,24 +18,24 @@ use Rattle.kif_tree.specs.declared.form.Form.TheOpen.{Form-F}
 use Rattle.kif_tree.specs.declared.form.Form.TheVariants as form
 use Rattle.kif_tree.specs.declared.place.Located.{Located}
 use Rattle.kif_tree.specs.declared.place.Place.{Place}
-use Rattle.kif_tree.proofs.ShapeLaws.{has_word-Word, has_word-List, has_word_other}
+use Rattle.kif_tree.proofs.ShapeLaws.{has_word-Word, has_word-List}
 use Rattle.taxonomy.specs.declared.told.ChainKind.{ChainKind}
 use Rattle.taxonomy.specs.declared.told.Told.{Told}
 use Rattle.taxonomy.specs.Chains.{parents, as_told}
 use Rattle.taxonomy.specs.Disjoint.{Separates, AreNotDisjoint, AreDisjointBy}
 use Rattle.taxonomy.specs.Told as told
 use Rattle.taxonomy.specs.Told.{Link, links, told_link, link_of_words, link_of_kind, kind_of, word_text, word_layer, word_texts, text_before, parts_of, DisjointWords, ToldTaxonomy, told_taxonomy}
-use Rattle.signatures.specs.Arities.{built_in, IsArity}
-use Rattle.signatures.specs.Relations.{is_shown, is_snapshot_word, IsRelationName}
-use Rattle.signatures.specs.declared.told.Arity.{Arity}
+use Rattle.signatures.specs.Arities.{built_in}
+use Rattle.signatures.specs.Relations.{is_shown, is_snapshot_word}
 use Rattle.diagnose.specs.declared.diagnostic.Diagnostic.{Diagnostic}
 use Rattle.diagnose.specs.declared.words.WordTables.{WordTables}
 use Rattle.diagnose.specs.Diagnostics.{IsOfWord}
 use Rattle.diagnose.specs.Found.{Adds}
-use Rattle.diagnose.specs.WordFaults.{second_text, second_word, is_plain, lacks_parent, lacks_documentation, of_word, IsFault, Gains, IsNew, occurs_in, IsFirstTold, IsDisjoint, StandsAmong}
-use Rattle.diagnose.specs.Words.{IsPlainWord, place_with, first_with, documents, HasNoParent, HasNoDocumentation, HasDisjointParents, HasUnstatedArity}
-use Rattle.diagnose.specs.WordTables.{AreWords, IsDocumented, IsUnstated, AreSeen}
-use Rattle.diagnose.proofs.NewWordLaws.{adds_one, adds_then}
+use Rattle.diagnose.specs.WordFaults.{second_text, second_word, is_plain, IsFault, Gains, IsNew, occurs_in, IsFirstTold, IsDisjoint, StandsAmong}
+use Rattle.diagnose.specs.Words.{IsPlainWord, place_with, first_with, documents}
+use Rattle.diagnose.specs.WordTables.{AreSeen}
+use Rattle.diagnose.proofs.FoundLaws.{adds_one}
+use Rattle.diagnose.proofs.NewWordLaws.{adds_then}
 use Rattle.diagnose.proofs.WordTableLaws.{text_of_word, text_of_other}
 
 -- ---- disjoint parents
@@ -84,8 +84,8 @@ disjoint_one taxonomy located word a b c e term by xs ys second is_a is_b is_c i
     })
     (λ d i.
     let same : i.word ≡ word = same_word (second_word located.form) i.word word i.second second in
-    i.is ∙ ap (with_by located.place i.by) same
-    ∙ ap (λ (p : Place). with_by located.place p word) (by_one taxonomy word word i.by by (subst (λ (w : Bytes). AreDisjointBy taxonomy w w i.by) same i.disjoint) apart))
+    sym (i.is ∙ ap (with_by located.place i.by) same
+    ∙ ap (λ (p : Place). with_by located.place p word) (by_one taxonomy word word i.by by (subst (λ (w : Bytes). AreDisjointBy taxonomy w w i.by) same i.disjoint) apart)))
   where
     apart : AreDisjointBy taxonomy word word by
     apart = subst (λ (w : Bytes). AreDisjointBy taxonomy w word by) is_c (subst (λ (w : Bytes). AreDisjointBy taxonomy c w by) is_e disjoint)

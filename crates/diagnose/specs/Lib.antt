@@ -1,6 +1,8 @@
 pub mod Arguments
 pub mod Diagnostics
 pub mod Found
+pub mod Order
+pub mod VariableWalk
 pub mod Variables
 pub mod WordFaults
 pub mod WordTables

@@ -3,6 +3,8 @@
 
 mod diagnostic;
 mod list;
+mod order;
+mod variables;
 mod words;
 
 pub use diagnostic::Diagnostic;

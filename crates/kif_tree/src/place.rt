@@ -3,8 +3,9 @@ use crate::form::Form;
 use crate::text::Text;
 
 /// Where a form stands. `constituent` is the number of the load, and `form` counts the top-level forms of the text from 1.
-/// `line` and `column` are those of the form's first byte, each from 1.
-#[derive(Clone, Copy, Debug, PartialEq, Eq)]
+/// `line` and `column` are those of the form's first byte, each from 1. Places are ordered by these numbers in turn, which is how they are
+/// looked up, and not how forms follow each other.
+#[derive(Clone, Copy, Debug, PartialEq, Eq, PartialOrd, Ord)]
 pub struct Place {
     pub constituent: u32,
     pub form: u32,

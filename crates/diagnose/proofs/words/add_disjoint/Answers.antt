@@ -1,6 +1,6 @@
 use Rattle.std.proofs.Common.{sym, ◌∙◌}
 use Rattle.diagnose.specs.WordFaults.{IsDisjoint}
-use Rattle.diagnose.proofs.NewWordLaws.{adds_none}
+use Rattle.diagnose.proofs.FoundLaws.{adds_none}
 use Rattle.diagnose.proofs.WordFaultLaws.{not_disjoint, disjoint_one}
 use Rattle.diagnose.proofs.words.add_disjoint.Goals as goal
 
