@@ -5,6 +5,8 @@ mod diagnostic;
 mod list;
 mod order;
 mod variables;
+#[cfg(test)]
+mod word_tests;
 mod words;
 
 pub use diagnostic::Diagnostic;
