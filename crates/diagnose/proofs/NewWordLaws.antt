@@ -1,9 +1,10 @@
 -- What was added, and words that are new at a form.
-use Rattle.std.proofs.Common.{◌≡◌, ℕ, ◌+◌, ◌<◌, ◌≤◌, ◌⊎◌, ◌||◌, List, length, get_or, take, Bool, true, false, refl, sym, ap, ap₂, subst, ◌∙◌, inl, inr}
+use Rattle.std.proofs.Common.{◌≡◌, ℕ, ◌+◌, ◌<◌, ◌≤◌, ◌⊎◌, ◌||◌, ◌&&◌, List, length, get_or, take, Bool, true, false, refl, sym, ap, ap₂, subst, ◌∙◌, inl, inr}
 use Rattle.std.specs.List.{list_any}
 use Rattle.std.specs.Str.{bytes_eq}
 use Rattle.std.proofs.lemmas.List.{take_all}
 use Rattle.std.proofs.lemmas.List.Folds.{list_any_more}
+use Rattle.std.proofs.Math.Bool.{or-false, or-true, or_assoc}
 use Rattle.std.proofs.lemmas.Slice.Eq.{bytes_eq-Decides}
 use Rattle.kif_tree.specs.Shape.{is_among, has_word}
 use Rattle.kif_tree.specs.Terms.{Bytes}
@@ -17,6 +18,20 @@ use Rattle.diagnose.specs.declared.words.WordTables.{WordTables}
 use Rattle.diagnose.specs.Found.{Adds}
 use Rattle.diagnose.proofs.FoundLaws.{adds_none, adds_same, adds_both}
 use Rattle.diagnose.specs.WordFaults.{lacks_parent, lacks_documentation, of_word, IsFault, Gains, IsNew, is_word, occurs_in}
+
+-- ---- tests
+
+pub neither : (a b : Bool) → (a || b) ≡ false → (a ≡ false) × (b ≡ false)
+neither true b h = absurd (cc)
+neither false b h = (refl, h)
+
+pub both : (a b : Bool) → (a && b) ≡ true → (a ≡ true) × (b ≡ true)
+both true b h = (refl, h)
+both false b h = absurd (cc)
+
+pub join : (a b : Bool) → a ≡ true → b ≡ true → (a && b) ≡ true
+join true b h k = k
+join false b h k = absurd (cc)
 
 -- ---- what was added in turn
 
@@ -52,22 +67,6 @@ faults_of taxonomy tables place word a b c xs ys zs ws is_a is_b is_c one two th
 
 -- ---- new words
 
-or_none : (b : Bool) → (b || false) ≡ b
-or_none true = refl
-or_none false = refl
-
-or_true : (b : Bool) → (b || true) ≡ true
-or_true true = refl
-or_true false = refl
-
-or_twice : (a b c : Bool) → ((a || b) || c) ≡ (a || (b || c))
-or_twice true b c = refl
-or_twice false b c = refl
-
-neither : (a b : Bool) → (a || b) ≡ false → (a ≡ false) × (b ≡ false)
-neither true b h = absurd (cc)
-neither false b h = (refl, h)
-
 pub new_one : (F : Bytes → Diagnostic → Type 0) (old : List Bytes) (word : Bytes) (xs ys : List Diagnostic) → is_among old word ≡ false → Adds (F word) xs ys → Adds (IsNew F old (is_word word)) xs ys
 new_one F old word xs ys new h = adds_same (F word) (IsNew F old (is_word word)) xs ys
     (λ d f. record { word = word; new = new; has = (bytes_eq-Decides word word).1 refl; fault = f })
@@ -85,7 +84,7 @@ pub new_then : (F : Bytes → Diagnostic → Type 0) (old mid : List Bytes) (s t
     → Adds (IsNew F old s) xs ys → Adds (IsNew F mid t) ys zs → Adds (IsNew F old u) xs zs
 new_then F old mid s t u xs ys zs gains both first next = adds_then (IsNew F old s) (IsNew F mid t) (IsNew F old u) xs ys zs first next split
     (λ d i. record { word = i.word; new = i.new; has = both i.word ∙ ap (λ b. b || t i.word) i.has; fault = i.fault })
-    (λ d i. record { word = i.word; new = (neither (is_among old i.word) (s i.word) (sym (gains i.word) ∙ i.new)).0; has = both i.word ∙ ap (λ b. s i.word || b) i.has ∙ or_true (s i.word); fault = i.fault })
+    (λ d i. record { word = i.word; new = (neither (is_among old i.word) (s i.word) (sym (gains i.word) ∙ i.new)).0; has = both i.word ∙ ap (λ b. s i.word || b) i.has ∙ or-true (s i.word); fault = i.fault })
   where
     split : (d : Diagnostic) → IsNew F old u d → IsNew F old s d ⊎ IsNew F mid t d
     split d i = go (s i.word) refl
@@ -101,13 +100,13 @@ new_then F old mid s t u xs ys zs gains both first next = adds_then (IsNew F old
 
 pub gains_then : (old mid new : List Bytes) (s t u : Bytes → Bool) → Gains s old mid → Gains t mid new → ((word : Bytes) → u word ≡ (s word || t word)) → Gains u old new
 gains_then old mid new s t u first next both = λ word.
-    next word ∙ ap (λ b. b || t word) (first word) ∙ or_twice (is_among old word) (s word) (t word) ∙ ap (λ b. is_among old word || b) (sym (both word))
+    next word ∙ ap (λ b. b || t word) (first word) ∙ or_assoc (is_among old word) (s word) (t word) ∙ ap (λ b. is_among old word || b) (sym (both word))
 
 pub gains_as : (old new : List Bytes) (test other : Bytes → Bool) → ((word : Bytes) → test word ≡ other word) → Gains test old new → Gains other old new
 gains_as old new test other same h = λ word. h word ∙ ap (λ b. is_among old word || b) (same word)
 
 pub gains_none : (words : List Bytes) (test : Bytes → Bool) → ((word : Bytes) → test word ≡ false) → Gains test words words
-gains_none words test none = λ word. sym (ap (λ b. is_among words word || b) (none word) ∙ or_none (is_among words word))
+gains_none words test none = λ word. sym (ap (λ b. is_among words word || b) (none word) ∙ or-false (is_among words word))
 
 -- ---- the words of a form
 

@@ -1,11 +1,13 @@
 -- What is wrong with words at a form.
 use Rattle.std.proofs.Common.{◌≡◌, ◌≢◌, ℕ, suc, zero, ◌⊎◌, ◌||◌, ◌&&◌, List, [], ◌∷◌, ◌++◌, length, map, filter, Bool, true, false, not, refl, sym, ap, ap₂, subst, ◌∙◌, arith, inl, inr, if◌then◌else◌}
-use Rattle.std.specs.Prelude.{Option, Some, None, Contains, codes, is_none, nat_eq, ◌↔◌}
+use Rattle.std.specs.Prelude.{Option, Some, None, Contains, codes, is_none, nat_eq}
 use Rattle.std.specs.List.{list_any, filter_map, cons_option}
 use Rattle.std.specs.Str.{bytes_eq}
 use Rattle.std.proofs.lemmas.Bool.Decides.{nat_tests}
 use Rattle.std.proofs.lemmas.List.Elements.{Contains-append_right}
 use Rattle.std.proofs.lemmas.List.Folds.{list_any-append}
+use Rattle.std.proofs.Math.Bool.{or-false, or-true}
+use Rattle.std.specs.Cmp.{both_ways}
 use Rattle.std.proofs.lemmas.Slice.Eq.{bytes_eq-Decides}
 use Rattle.sigma_base.specs.Lists.{Each, each_right}
 use Rattle.kif_tree.specs.FormLaws.{induction}
@@ -35,7 +37,7 @@ use Rattle.diagnose.specs.WordFaults.{second_text, second_word, is_plain, IsFaul
 use Rattle.diagnose.specs.Words.{IsPlainWord, place_with, first_with, documents}
 use Rattle.diagnose.specs.WordTables.{AreSeen}
 use Rattle.diagnose.proofs.FoundLaws.{adds_one}
-use Rattle.diagnose.proofs.NewWordLaws.{adds_then}
+use Rattle.diagnose.proofs.NewWordLaws.{adds_then, neither, both, join}
 use Rattle.diagnose.proofs.WordTableLaws.{text_of_word, text_of_other}
 
 -- ---- disjoint parents
@@ -192,10 +194,6 @@ same_form (x ∷ forms) a b differ (suc n, lt, is) (suc m, lt', is') at = same_f
 abbrev test : Bytes → Located → Bool
 test word located = not (is_shown located.form) && has_word word located.form
 
-neither : (a b : Bool) → (a || b) ≡ false → (a ≡ false) × (b ≡ false)
-neither true b h = absurd (cc)
-neither false b h = (refl, h)
-
 first_here : (before after : List Located) (located : Located) (word : Bytes) → is_snapshot_word before word ≡ false → test word located ≡ true → first_with (before ++ located ∷ after) word ≡ Some located.place
 first_here [] after located word none has = ap (λ (b : Bool). first_of (cons_option (if b then Some located.place else None) (filter_map (place_with word) after))) has
 first_here (x ∷ before) after located word none has =
@@ -228,21 +226,8 @@ first_back (x ∷ before) after located word differ e = go (test word x) refl e 
 
 -- ---- words that were seen
 
-same_bool : (a b : Bool) → (a ≡ true) ↔ (b ≡ true) → a ≡ b
-same_bool true b h = sym (h.0 refl)
-same_bool false true h = h.1 refl
-same_bool false false h = refl
-
-or_none : (b : Bool) → (b || false) ≡ b
-or_none true = refl
-or_none false = refl
-
-or_true : (b : Bool) → (b || true) ≡ true
-or_true true = refl
-or_true false = refl
-
 seen_before : (before : List Located) (seen : List Bytes) → AreSeen before seen → (word : Bytes) → is_among seen word ≡ is_snapshot_word before word
-seen_before before seen h word = same_bool (is_among seen word) (is_snapshot_word before word) (h word)
+seen_before before seen h word = both_ways (is_among seen word) (is_snapshot_word before word) (h word).0 (h word).1
 
 test_of : (word : Bytes) (located : Located) → is_shown located.form ≡ false → test word located ≡ has_word word located.form
 test_of word located not_shown = ap (λ b. not b && has_word word located.form) not_shown
@@ -252,7 +237,7 @@ seen_more before located old new gains h not_shown = λ word. (λ a. sym (same w
   where
     same : (word : Bytes) → is_among new word ≡ is_snapshot_word (before ++ located ∷ []) word
     same word =
-        gains word ∙ ap₂ (λ a b. a || b) (seen_before before old h word) (sym (or_none (test word located) ∙ test_of word located not_shown))
+        gains word ∙ ap₂ (λ a b. a || b) (seen_before before old h word) (sym (or-false (test word located) ∙ test_of word located not_shown))
         ∙ sym (list_any-append (test word) before (located ∷ []))
 
 -- ---- the word that a form tells something of occurs in it
@@ -289,17 +274,9 @@ second_occurs f word = induction (λ f. second_word f ≡ Some word → has_word
     in_parts : (parts : List Form) → second_text parts ≡ Some word → list_any (has_word word) parts ≡ true
     in_parts [] e = absurd (cc)
     in_parts (x ∷ []) e = absurd (cc)
-    in_parts (x ∷ y ∷ parts) e = ap (λ b. has_word word x || (b || list_any (has_word word) parts)) (text_occurs y word e) ∙ or_true (has_word word x)
+    in_parts (x ∷ y ∷ parts) e = ap (λ b. has_word word x || (b || list_any (has_word word) parts)) (text_occurs y word e) ∙ or-true (has_word word x)
 
 -- ---- plain words
-
-both : (a b : Bool) → (a && b) ≡ true → (a ≡ true) × (b ≡ true)
-both true b h = (refl, h)
-both false b h = absurd (cc)
-
-join : (a b : Bool) → a ≡ true → b ≡ true → (a && b) ≡ true
-join true b h k = k
-join false b h k = absurd (cc)
 
 denied : (b : Bool) → not b ≡ true → b ≡ false
 denied true h = absurd (cc)
@@ -354,7 +331,7 @@ module _ (before : List Located) (located : Located) (after : List Located) (tax
   occurs_here : (word : Bytes) → has_word word located.form ≡ true → is_snapshot_word forms word ≡ true
   occurs_here word has =
       list_any-append (test word) before (located ∷ after)
-      ∙ ap (λ b. is_snapshot_word before word || (b || is_snapshot_word after word)) (test_of word located stands.not_shown ∙ has) ∙ or_true (is_snapshot_word before word)
+      ∙ ap (λ b. is_snapshot_word before word || (b || is_snapshot_word after word)) (test_of word located stands.not_shown ∙ has) ∙ or-true (is_snapshot_word before word)
 
   first_by : (word : Bytes) → is_among seen word ≡ false → has_word word located.form ≡ true → first_with forms word ≡ Some located.place
   first_by word new has =
@@ -408,7 +385,7 @@ module _ (before : List Located) (located : Located) (after : List Located) (tax
               refl,
               record {
                 plain = plain_word forms i.word occurs e.1;
-                undocumented = sym (same_bool (is_among tables.documented i.word) (list_any (documents i.word) forms) (stands.documented i.word)) ∙ denied (is_among tables.documented i.word) e.0;
+                undocumented = sym (both_ways (is_among tables.documented i.word) (list_any (documents i.word) forms) (stands.documented i.word).0 (stands.documented i.word).1) ∙ denied (is_among tables.documented i.word) e.0;
                 first = first;
                 alone = refl;
               },
@@ -457,7 +434,7 @@ module _ (before : List Located) (located : Located) (after : List Located) (tax
   split_wrong d (at, inr (inl (is, h))) =
       inl (new_by d at h.first (inr (inl (
         join (not (is_among tables.documented d.term)) (is_plain d.term)
-            (ap not (same_bool (is_among tables.documented d.term) (list_any (documents d.term) forms) (stands.documented d.term) ∙ h.undocumented)) (plain_back forms d.term h.plain),
+            (ap not (both_ways (is_among tables.documented d.term) (list_any (documents d.term) forms) (stands.documented d.term).0 (stands.documented d.term).1 ∙ h.undocumented)) (plain_back forms d.term h.plain),
         rebuilt d 2 located.place None is at h.alone,
       ))))
   split_wrong d (at, inr (inr (inl (is, h)))) =

@@ -6,6 +6,7 @@ use Rattle.std.specs.List.{list_any}
 use Rattle.std.specs.Str.{bytes_eq}
 use Rattle.std.proofs.lemmas.List.{take_all}
 use Rattle.std.proofs.lemmas.List.Folds.{list_any_more}
+use Rattle.std.proofs.Math.Bool.{and-false, or-false, or-true}
 use Rattle.std.proofs.lemmas.Slice.Eq.{bytes_eq-Decides}
 use Rattle.kif_tree.specs.Clauses.{is_word, is_headed, heads_layer}
 use Rattle.kif_tree.specs.FormLaws.{induction}
@@ -25,6 +26,7 @@ use Rattle.signatures.specs.declared.told.Arity.TheVariants.{Exactly, Any, Unsta
 use Rattle.signatures.proofs.NameLaws.{arity_one, contains_among, among_contains}
 use Rattle.diagnose.specs.WordFaults.{second_text, second_word, is_plain, is_unstated, AreUnstated}
 use Rattle.diagnose.specs.Words.{documents_in, documents}
+use Rattle.diagnose.proofs.NewWordLaws.{both, join}
 use Rattle.diagnose.specs.WordTables.{AreWords, IsDocumented, IsUnstated}
 
 -- ---- the second part of a list
@@ -56,10 +58,6 @@ pub second_of : (f second : Form) (parts items : List Form) (o : Option Bytes) �
 second_of f second parts items o is same long at text = ap second_text (parts_of_list f parts is ∙ sym same) ∙ second_at items second long at ∙ text
 
 -- ---- documented words
-
-and_false : (b : Bool) → (b && false) ≡ false
-and_false true = refl
-and_false false = refl
 
 abbrev head : Bytes
 head = codes "documentation"
@@ -129,15 +127,11 @@ pub documented_by : (located : Located) (b : Bool) (o : Option (Bor Bytes)) → 
 documented_by located b None is holds h = λ word. documents_by located.form None (sym is ∙ holds) h word
 documented_by located b (Some text) is holds h = λ word. documents_by located.form (Some text.now) (sym is ∙ holds) h word
 
-or_none : (b : Bool) → (b || false) ≡ b
-or_none true = refl
-or_none false = refl
-
 pub documents_skip : (forms : List Located) (i : ℕ) (located : Located) (words : List Bytes) → i < length forms → located ≡ get_or forms i located → ((word : Bytes) → documents word located ≡ false)
     → ((word : Bytes) → is_among words word ≡ list_any (documents word) (take i forms)) → (word : Bytes) → is_among words word ≡ list_any (documents word) (take (i + 1) forms)
 documents_skip forms i located words lt is none h = λ word.
     h word ∙ sym (list_any_more (documents word) forms i located lt ∙ ap (λ (l : Located). list_any (documents word) (take i forms) || documents word l) (sym is)
-    ∙ ap (λ b. list_any (documents word) (take i forms) || b) (none word) ∙ or_none (list_any (documents word) (take i forms)))
+    ∙ ap (λ b. list_any (documents word) (take i forms) || b) (none word) ∙ or-false (list_any (documents word) (take i forms)))
 
 pub documents_more : (forms : List Located) (i : ℕ) (located : Located) (old new : List Bytes) (text word : Bytes) → i < length forms → located ≡ get_or forms i located → ((other : Bytes) → documents other located ≡ bytes_eq other text) → word ≡ text
     → ((other : Bytes) → is_among old other ≡ list_any (documents other) (take i forms)) → ((other : Bytes) → is_among new other ≡ (is_among old other || bytes_eq other word))
@@ -153,14 +147,6 @@ documents_all forms i words end h = λ word. (λ a. sym (same word) ∙ a, λ b.
     same word = h word ∙ ap (list_any (documents word)) (take_all i forms end)
 
 -- ---- relation names without a stated arity
-
-both : (a b : Bool) → (a && b) ≡ true → (a ≡ true) × (b ≡ true)
-both true b h = (refl, h)
-both false b h = absurd (cc)
-
-join : (a b : Bool) → a ≡ true → b ≡ true → (a && b) ≡ true
-join true b h k = k
-join false b h k = absurd (cc)
 
 unstated_one : (arity : Arity) → is_unstated arity ≡ true → arity ≡ Unstated
 unstated_one (Exactly count) e = absurd (cc)
@@ -178,9 +164,9 @@ unstated_skip test names i name text words lt is same fails h = λ word.
     go : (word : Bytes) (b : Bool) → bytes_eq word name ≡ b → (is_among (take i names) word && test word) ≡ ((is_among (take i names) word || bytes_eq word name) && test word)
     go word true e =
         let none : test word ≡ false = ap test ((bytes_eq-Decides word name).0 e ∙ sym same) ∙ fails in
-        ap (λ b. is_among (take i names) word && b) none ∙ and_false (is_among (take i names) word)
-        ∙ sym (ap (λ b. (is_among (take i names) word || bytes_eq word name) && b) none ∙ and_false (is_among (take i names) word || bytes_eq word name))
-    go word false e = ap (λ b. b && test word) (sym (ap (λ b. is_among (take i names) word || b) e ∙ or_none (is_among (take i names) word)))
+        ap (λ b. is_among (take i names) word && b) none ∙ and-false (is_among (take i names) word)
+        ∙ sym (ap (λ b. (is_among (take i names) word || bytes_eq word name) && b) none ∙ and-false (is_among (take i names) word || bytes_eq word name))
+    go word false e = ap (λ b. b && test word) (sym (ap (λ b. is_among (take i names) word || b) e ∙ or-false (is_among (take i names) word)))
 
 pub unstated_more : (test : Bytes → Bool) (names : List Bytes) (i : ℕ) (name text : Bytes) (old new : List Bytes) → i < length names → name ≡ get_or names i name → text ≡ name → test text ≡ true
     → ((word : Bytes) → is_among old word ≡ (is_among (take i names) word && test word)) → ((word : Bytes) → is_among new word ≡ (is_among old word || bytes_eq word text))
@@ -188,18 +174,14 @@ pub unstated_more : (test : Bytes → Bool) (names : List Bytes) (i : ℕ) (name
 unstated_more test names i name text old new lt is same holds h add = λ word.
     add word ∙ ap₂ (λ a b. a || b) (h word) (ap (bytes_eq word) same) ∙ go word (bytes_eq word name) refl ∙ ap (λ b. b && test word) (sym (one_more names i name lt is word))
   where
-    or_true : (b : Bool) → (b || true) ≡ true
-    or_true true = refl
-    or_true false = refl
-
     go : (word : Bytes) (b : Bool) → bytes_eq word name ≡ b → ((is_among (take i names) word && test word) || bytes_eq word name) ≡ ((is_among (take i names) word || bytes_eq word name) && test word)
     go word true e =
         let passes : test word ≡ true = ap test ((bytes_eq-Decides word name).0 e ∙ sym same) ∙ holds in
-        ap (λ b. (is_among (take i names) word && test word) || b) e ∙ or_true (is_among (take i names) word && test word)
-        ∙ sym (ap₂ (λ a b. (is_among (take i names) word || a) && b) e passes ∙ join (is_among (take i names) word || true) true (or_true (is_among (take i names) word)) refl)
+        ap (λ b. (is_among (take i names) word && test word) || b) e ∙ or-true (is_among (take i names) word && test word)
+        ∙ sym (ap₂ (λ a b. (is_among (take i names) word || a) && b) e passes ∙ join (is_among (take i names) word || true) true (or-true (is_among (take i names) word)) refl)
     go word false e =
-        ap (λ b. (is_among (take i names) word && test word) || b) e ∙ or_none (is_among (take i names) word && test word)
-        ∙ ap (λ b. b && test word) (sym (ap (λ b. is_among (take i names) word || b) e ∙ or_none (is_among (take i names) word)))
+        ap (λ b. (is_among (take i names) word && test word) || b) e ∙ or-false (is_among (take i names) word && test word)
+        ∙ ap (λ b. b && test word) (sym (ap (λ b. is_among (take i names) word || b) e ∙ or-false (is_among (take i names) word)))
 
 pub unstated_all : (signatures : Signatures) (names : List Bytes) (i : ℕ) (words : List Bytes) → names ≡ relations_in signatures → length names ≤ i
     → ((word : Bytes) → is_among words word ≡ (is_among (take i names) word && is_unstated (arity_in signatures word))) → AreUnstated signatures words
