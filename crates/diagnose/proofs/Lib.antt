@@ -6,3 +6,6 @@ pub mod PlaceLaws
 pub mod StandLaws
 mod VariableLaws
 pub mod WholeLaws
+mod NewWordLaws
+mod WordFaultLaws
+mod WordTableLaws

@@ -1,5 +1,5 @@
 -- What is wrong with words as it is found: by tables, at the first form that has them.
-use Rattle.std.specs.Prelude.{◌≡◌, ℕ, ◌⊎◌, List, [], ◌∷◌, ◌++◌, length, Bool, true, false, not, ◌&&◌, ◌||◌, nat_eq, codes, Option, Some, None, is_none}
+use Rattle.std.specs.Prelude.{◌≡◌, ℕ, ◌⊎◌, List, ◌∷◌, ◌++◌, length, Bool, true, false, not, ◌&&◌, ◌||◌, nat_eq, codes, Option, Some, None, is_none}
 use Rattle.std.specs.Str.{bytes_eq}
 use Rattle.kif_tree.specs.Names.{parts_in}
 use Rattle.kif_tree.specs.Places.{PlacesDiffer}
@@ -35,10 +35,10 @@ unfoldable pub is_plain : Bytes → Bool
 is_plain word = not (is_among logical_words word) && is_none (built_in word)
 
 abbrev pub lacks_parent : ToldTaxonomy → Bytes → Bool
-lacks_parent taxonomy word = is_plain word && (not (bytes_eq word (codes "Entity")) && nat_eq (length (parents taxonomy.links word)) 0)
+lacks_parent taxonomy word = nat_eq (length (parents taxonomy.links word)) 0 && (not (bytes_eq word (codes "Entity")) && is_plain word)
 
 abbrev pub lacks_documentation : WordTables → Bytes → Bool
-lacks_documentation tables word = is_plain word && not (is_among tables.documented word)
+lacks_documentation tables word = not (is_among tables.documented word) && is_plain word
 
 -- a diagnostic that names a word and no other place
 abbrev pub of_word : ℕ → Place → Bytes → Diagnostic

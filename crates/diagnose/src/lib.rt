@@ -7,6 +7,8 @@ mod laws;
 mod list;
 mod order;
 mod variables;
+#[cfg(test)]
+mod word_tests;
 mod words;
 
 pub use diagnostic::Diagnostic;

@@ -55,7 +55,7 @@ nearest_one ls Has word a b n m = go (n.first b m.has (subst (IsDistance ls kind
 some_one : (a b : Arity) → Some a ≡ Some b → a ≡ b
 some_one a b e = cc
 
-arity_one : (forms : List Located) (word : Bytes) (a b : Arity) → IsArity forms word a → IsArity forms word b → a ≡ b
+pub arity_one : (forms : List Located) (word : Bytes) (a b : Arity) → IsArity forms word a → IsArity forms word b → a ≡ b
 arity_one forms word a b (inl h) (inl k) = some_one a b (own_one forms word (Some a) (Some b) h k)
 arity_one forms word a b (inl h) (inr k) = let e : Some a ≡ None = own_one forms word (Some a) None h k.0 in absurd (cc)
 arity_one forms word a b (inr h) (inl k) = let e : Some b ≡ None = own_one forms word (Some b) None k h.0 in absurd (cc)
@@ -71,7 +71,7 @@ arity_one forms word a b (inr h) (inr k) = go h.1 k.1
 
 -- ---- lists of words
 
-contains_among : (words : List Bytes) (word : Bytes) → Contains words word → Among words word
+pub contains_among : (words : List Bytes) (word : Bytes) → Contains words word → Among words word
 contains_among [] word (n, lt, is) = absurd (omega (arith, lt))
 contains_among (x ∷ words) word (zero, lt, is) = ap (λ b. b || is_among words word) ((bytes_eq-Decides word x).1 (sym is))
 contains_among (x ∷ words) word (suc n, lt, is) = go (bytes_eq word x) (contains_among words word (n, omega (arith, lt), is))
@@ -80,7 +80,7 @@ contains_among (x ∷ words) word (suc n, lt, is) = go (bytes_eq word x) (contai
     go true h = refl
     go false h = h
 
-among_contains : (words : List Bytes) (word : Bytes) → Among words word → Contains words word
+pub among_contains : (words : List Bytes) (word : Bytes) → Among words word → Contains words word
 among_contains [] word h = absurd (cc)
 among_contains (x ∷ words) word h = go (bytes_eq word x) refl h (among_contains words word)
   where

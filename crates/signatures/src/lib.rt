@@ -14,5 +14,6 @@ mod told;
 mod types;
 mod word_table;
 
+pub use arities::built_in;
 pub use signatures::Signatures;
 pub use told::{Arity, TypeTold};
