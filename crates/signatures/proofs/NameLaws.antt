@@ -37,7 +37,7 @@ use Rattle.signatures.proofs.ArityLaws.{own_one}
 no_both : (a b : Bytes) → IsBefore a b → IsBefore b a → ⊥
 no_both a b h k = let e : Less ≡ ordering_reverse Less = sym h ∙ nat_list_cmp_total.antisymm a b ∙ ap ordering_reverse k in absurd (cc)
 
-nearest_one : (ls : List Link) (Has : Bytes → Type 0) (word a b : Bytes) → IsNearest ls Has word a → IsNearest ls Has word b → a ≡ b
+pub nearest_one : (ls : List Link) (Has : Bytes → Type 0) (word a b : Bytes) → IsNearest ls Has word a → IsNearest ls Has word b → a ≡ b
 nearest_one ls Has word a b n m = go (n.first b m.has (subst (IsDistance ls kinds.Relation word b) (sym same) m.reached)) (m.first a n.has (subst (IsDistance ls kinds.Relation word a) same n.reached))
   where
     same : n.distance ≡ m.distance
@@ -51,7 +51,7 @@ nearest_one ls Has word a b n m = go (n.first b m.has (subst (IsDistance ls kind
 some_one : (a b : Arity) → Some a ≡ Some b → a ≡ b
 some_one a b e = cc
 
-arity_one : (forms : List Located) (word : Bytes) (a b : Arity) → IsArity forms word a → IsArity forms word b → a ≡ b
+pub arity_one : (forms : List Located) (word : Bytes) (a b : Arity) → IsArity forms word a → IsArity forms word b → a ≡ b
 arity_one forms word a b (inl h) (inl k) = some_one a b (own_one forms word (Some a) (Some b) h k)
 arity_one forms word a b (inl h) (inr k) = let e : Some a ≡ None = own_one forms word (Some a) None h k.0 in absurd (cc)
 arity_one forms word a b (inr h) (inl k) = let e : Some b ≡ None = own_one forms word (Some b) None k h.0 in absurd (cc)
