@@ -1,1 +1,4 @@
+pub mod ArgumentLaws
 pub mod FoundLaws
+pub mod ListLaws
+pub mod NumberLaws
