@@ -1,8 +1,10 @@
 -- What is wrong with the arguments of one list.
-use Rattle.std.proofs.Common.{◌≡◌, ◌≢◌, ℕ, zero, suc, ◌+◌, ◌<◌, ◌≤◌, ◌⊎◌, List, [], ◌∷◌, ◌++◌, length, get_or, take, drop, Bool, true, false, not, refl, sym, ap, subst, ◌∙◌, arith, inl, inr}
-use Rattle.std.specs.Prelude.{Contains, Option, Some, None, ◌&&◌, nat_eq, nat_lt, codes, min}
+use Rattle.std.proofs.Common.{◌≡◌, ◌≢◌, ℕ, zero, suc, ◌+◌, ◌-◌, ◌<◌, ◌≤◌, ◌⊎◌, List, [], ◌∷◌, ◌++◌, length, get_or, take, drop, length-drop, Bool, true, false, not, refl, sym, ap, subst, ◌∙◌, arith, inl, inr}
+use Rattle.std.specs.Prelude.{Contains, Option, Some, None, ◌&&◌, nat_eq, nat_lt, codes, min, MatchOption, IsTrue, ◌↔◌}
 use Rattle.std.specs.List.{list_any}
-use Rattle.std.proofs.lemmas.List.{get_or_default, take_more}
+use Rattle.std.specs.Str.{bytes_eq}
+use Rattle.std.proofs.lemmas.Slice.Eq.{bytes_eq-Decides}
+use Rattle.std.proofs.lemmas.List.{get_or_default, take_more, take_all}
 use Rattle.std.proofs.lemmas.Bool.Decides.{nat_tests}
 use Rattle.kif_tree.specs.Names.{is_function_word}
 use Rattle.kif_tree.specs.Shape.{is_among, logical_words}
@@ -63,6 +65,12 @@ same_head a b xs ys e = same_word (form.Word b) a b (sym (first_part (form.Word 
 pub begins_with_first : (parts : List Form) (head : Form) → 1 ≤ length parts → head ≡ get_or parts 0 head → parts ≡ head ∷ drop 1 parts
 begins_with_first [] head low is = absurd (omega (arith, low))
 begins_with_first (part ∷ parts) head low is = ap (λ (x : Form). x ∷ parts) (sym is)
+
+-- the rest of the parts as a pattern of a slice has it
+pub begins_with_rest : (parts : List Form) (head : Form) → 1 ≤ length parts → head ≡ get_or parts 0 head → parts ≡ head ∷ take (length parts - 1) (drop 1 parts)
+begins_with_rest parts head low is =
+    begins_with_first parts head low is
+    ∙ ap (λ (xs : List Form). head ∷ xs) (sym (take_all (length parts - 1) (drop 1 parts) (omega (arith, length-drop 1 parts))))
 
 pub no_parts : (parts : List Form) → length parts < 1 → parts ≡ []
 no_parts [] lt = refl
@@ -172,6 +180,24 @@ module _ (forms : List Located) (type : TypeTold) (argument : Form) where
 
   pub entity_fits : type.class ≡ codes "Entity" → (term : Bytes) → IsMisfit forms type argument term → ⊥
   entity_fits is term h = h.not_entity is
+
+  -- what is found in the list is to blame for the argument
+  pub list_found : {X : Type 0} (view : X → Bytes) (o : Option X) (parts items : List Form) → argument ≡ form.List parts → items ≡ parts → (type.class ≢ codes "Entity")
+      → MatchOption o ((term : Bytes) → IsWrongParts forms type items term → ⊥) (λ x. IsWrongParts forms type items (view x))
+      → MatchOption o ((term : Bytes) → IsMisfit forms type argument term → ⊥) (λ x. IsMisfit forms type argument (view x))
+  list_found view None parts items is same apart h = list_fits items (is ∙ ap form.List (sym same)) h
+  list_found view (Some x) parts items is same apart h = list_misfit items (view x) (is ∙ ap form.List (sym same)) apart h
+
+pub apart_from : (class bytes slice literal : Bytes) (b : Bool) → bytes ≡ class → slice ≡ literal → b ≡ bytes_eq bytes slice → b ≡ false → class ≢ literal
+apart_from class bytes slice literal b one other test fails same =
+    let e : true ≡ false = sym ((bytes_eq-Decides bytes slice).1 (one ∙ same ∙ sym other)) ∙ sym test ∙ fails in absurd (cc)
+
+-- what a test tells
+pub holds_if : (P : Type 0) (b : Bool) → IsTrue b ↔ P → b ≡ true → P
+holds_if P b h e = h.0 e
+
+pub fails_if : (P : Type 0) (b : Bool) → IsTrue b ↔ P → b ≡ false → P → ⊥
+fails_if P b h e p = let is : false ≡ true = sym e ∙ h.1 p in absurd (cc)
 
 -- ---- functions
 

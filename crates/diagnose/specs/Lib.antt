@@ -1,4 +1,5 @@
 pub mod Arguments
+pub mod ClassWords
 pub mod Diagnostics
 pub mod Found
 pub mod Given

@@ -1,5 +1,5 @@
 //! What is wrong with the arguments of lists.
-ghost use Rattle.std.specs.Prelude.{◌≡◌, ◌↔◌, List, IsTrue, MatchOption, OnOk, length};
+ghost use Rattle.std.specs.Prelude.{◌≡◌, ◌↔◌, ◌⊎◌, List, true, IfOk, IsTrue, MatchOption, OnOk, length};
 ghost use Rattle.std.specs.List.{list_any};
 ghost use Rattle.kif_tree.specs.Names.{lists};
 ghost use Rattle.kif_tree.specs.Shape as shape;
@@ -8,6 +8,7 @@ ghost use Rattle.kif_tree.specs.declared.place.Located.{Located};
 ghost use Rattle.taxonomy.specs.Told.{links, told_taxonomy};
 ghost use Rattle.signatures.specs.Tables.{AreSignatures};
 ghost use Rattle.diagnose.specs.Arguments as spec;
+ghost use Rattle.diagnose.specs.ClassWords as class_spec;
 ghost use Rattle.diagnose.specs.Diagnostics.{IsOfArguments};
 ghost use Rattle.diagnose.specs.Found.{Adds, OfSome};
 ghost use Rattle.diagnose.specs.Given.{AreGiven};
@@ -320,4 +321,59 @@ fn is_unfit_function(given: Given<'_>, type_told: &TypeTold, function: &[u8]) ->
         return false;
     }
     !is_subclass_of(given.taxonomy, range.class.bytes(), type_told.class.bytes())
+}
+
+// ---- words of told `subclass` forms
+
+/// The words of a told `subclass` form.
+#[derive(Clone, Copy, Debug)]
+struct ClassLink<'a> {
+    low: &'a Text,
+    high: &'a Text,
+}
+
+/// The words that stand in told `subclass` forms.
+pub fn class_words(alloc: Global, forms: &[Located]) -> Result<WordSet, NoMemory>
+    ensures { IfOk result (AreWords (spec.IsClassWord (links forms.now))) }
+{
+    let mut words = WordSet::new(alloc);
+    for located in forms {
+        add_class_words(alloc, &mut words, &located.form)?;
+    }
+    Ok(words)
+}
+
+/// Adds the form's words, if it tells a subclass.
+fn add_class_words(alloc: Global, words: &mut WordSet, form: &Form) -> Result<(), NoMemory>
+    ensures { OnOk result ((word : Bytes) → (shape.is_among words.new word ≡ true) ↔ ((shape.is_among words.old word ≡ true) ⊎ class_spec.IsOfSubclassForm form.now word)) }
+{
+    let Some(link) = class_link_in(form) else {
+        return Ok(());
+    };
+    words.add(alloc, link.low.bytes())?;
+    words.add(alloc, link.high.bytes())?;
+    Ok(())
+}
+
+/// The words of the form, if it tells a subclass.
+fn class_link_in(form: &Form) -> Option<ClassLink<'_>>
+    ensures { MatchOption result ((low high : Bytes) → form.now ≡ class_spec.subclass_form low high → ⊥)
+        (λ link. form.now ≡ class_spec.subclass_form link.low.now link.high.now) }
+{
+    let Form::List(parts) = form else {
+        return None;
+    };
+    let [head, low, high] = parts.items() else {
+        return None;
+    };
+    let Form::Word(head) = head else {
+        return None;
+    };
+    if head.bytes() != b"subclass".as_slice() {
+        return None;
+    }
+    match (low, high) {
+        (Form::Word(low), Form::Word(high)) => Some(ClassLink { low, high }),
+        _ => None,
+    }
 }

@@ -1,19 +1,13 @@
-use Rattle.std.proofs.Common.{rules, ◌≡◌, ◌↔◌, List, IsTrue, MatchOption, OnOk, length, ℕ, ◌+◌, ◌-◌, ◌*◌, ◌<◌, ◌≤◌, ◌/◌, ◌%◌, Bool, true, false, nat_eq, nat_lt, [], ◌∷◌, ◌++◌, slice_index_or, slice_set, bit_and, bit_or, Fits, w8, w32, w64, Bor, MutBor}
-use Rattle.std.specs.List.{list_any}
-use Rattle.kif_tree.specs.Names.{lists}
-use Rattle.kif_tree.specs.Shape as shape
-use Rattle.kif_tree.specs.Terms.{Bytes}
-use Rattle.kif_tree.specs.declared.place.Located.{Located}
-use Rattle.taxonomy.specs.Told.{links, told_taxonomy}
-use Rattle.signatures.specs.Tables.{AreSignatures}
-use Rattle.diagnose.specs.Arguments as spec
-use Rattle.diagnose.specs.OfLists as of_lists
-use Rattle.diagnose.specs.Diagnostics.{IsOfArguments}
-use Rattle.diagnose.specs.Found.{Adds, OfSome}
-use Rattle.diagnose.specs.Given.{AreGiven}
-use Rattle.diagnose.specs.WordTables.{AreWords}
+use Rattle.std.proofs.Common.{◌-◌, length, take, drop, sym, ap, ◌∙◌}
+use Rattle.std.proofs.lemmas.Result.{on_ok_weaker}
+use Rattle.kif_tree.specs.Shape.{is_among, logical_words}
+use Rattle.diagnose.proofs.ArgumentLaws.{begins_with_rest, adds_headed}
 use Rattle.diagnose.proofs.arguments.add_of_parts.Goals as goal
 
--- src/arguments.rt:76:1
 pub returns : goal.returns
-returns c = ?
+returns c =
+    on_ok_weaker c.add_of_types.result (λ h forms given.
+    adds_headed forms c.args.place c.args.parts.now c.head-item.result (take (length c.args.parts.now - 1) (drop 1 c.args.parts.now)) c.in-Word.text
+    (begins_with_rest c.args.parts.now c.head-item.result c.in-len1-up.len_at_least c.head-item.is) c.in-Word.is
+    (ap (is_among logical_words) (sym c.bytes.ensures) ∙ sym c.is_logical.ensures ∙ c.if-is_logical.false)
+    c.args.found.now.items c.add_of_count.new.found.items c.add_of_types.new.found.items (c.in_ok-add_of_count.ensures forms given) (h forms given)) c.add_of_types.ensures

@@ -1,23 +1,18 @@
-use Rattle.std.proofs.Common.{rules, ◌≡◌, ◌↔◌, List, IsTrue, MatchOption, OnOk, length, ℕ, ◌+◌, ◌-◌, ◌*◌, ◌<◌, ◌≤◌, ◌/◌, ◌%◌, Bool, true, false, nat_eq, nat_lt, [], ◌∷◌, ◌++◌, slice_index_or, slice_set, bit_and, bit_or, Fits, w8, w32, w64, Bor, MutBor}
-use Rattle.std.specs.List.{list_any}
-use Rattle.kif_tree.specs.Names.{lists}
-use Rattle.kif_tree.specs.Shape as shape
+use Rattle.std.proofs.Common.{subst, Bor, codes}
 use Rattle.kif_tree.specs.Terms.{Bytes}
-use Rattle.kif_tree.specs.declared.place.Located.{Located}
-use Rattle.taxonomy.specs.Told.{links, told_taxonomy}
-use Rattle.signatures.specs.Tables.{AreSignatures}
-use Rattle.diagnose.specs.Arguments as spec
-use Rattle.diagnose.specs.OfLists as of_lists
-use Rattle.diagnose.specs.Diagnostics.{IsOfArguments}
-use Rattle.diagnose.specs.Found.{Adds, OfSome}
-use Rattle.diagnose.specs.Given.{AreGiven}
-use Rattle.diagnose.specs.WordTables.{AreWords}
+use Rattle.diagnose.specs.OfLists.{IsUnfitWord}
+use Rattle.diagnose.proofs.ArgumentLaws.{word_misfit, list_found, apart_from, holds_if}
 use Rattle.diagnose.proofs.arguments.misfit_in.Goals as goal
 
--- src/arguments.rt:238:17
 pub returns-then-is_unfit_word : goal.returns-then-is_unfit_word
-returns-then-is_unfit_word c = ?
+returns-then-is_unfit_word c = λ forms given.
+    word_misfit forms c.args.type_told.now c.args.argument.now c.in-Word.text c.in-Word.is
+    (apart_from c.args.type_told.now.class c.bytes.result.now c.as_slice.result.now (codes "Entity") c.eq.result c.bytes.ensures c.as_slice.ensures c.eq.ensures c.if-eq.false)
+    (subst (IsUnfitWord forms c.args.type_told.now) c.bytes-in-Word.ensures
+    (holds_if (IsUnfitWord forms c.args.type_told.now c.bytes-in-Word.result.now) c.is_unfit_word.result (c.is_unfit_word.ensures forms given) c.if-is_unfit_word.true))
 
--- src/arguments.rt:227:1
 pub returns-in-List : goal.returns-in-List
-returns-in-List c = ?
+returns-in-List c = λ forms given.
+    list_found forms c.args.type_told.now c.args.argument.now (λ (term : Bor Bytes). term.now) c.unfit_function_in.result c.in-List.parts c.items.result.now c.in-List.is c.items.ensures
+    (apart_from c.args.type_told.now.class c.bytes.result.now c.as_slice.result.now (codes "Entity") c.eq.result c.bytes.ensures c.as_slice.ensures c.eq.ensures c.if-eq.false)
+    (c.unfit_function_in.ensures forms given)
