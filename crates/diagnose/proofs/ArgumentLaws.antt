@@ -1,10 +1,10 @@
 -- What is wrong with the arguments of one list.
 use Rattle.std.proofs.Common.{◌≡◌, ◌≢◌, ℕ, zero, suc, ◌+◌, ◌-◌, ◌<◌, ◌≤◌, ◌⊎◌, List, [], ◌∷◌, ◌++◌, length, get_or, take, drop, length-drop, Bool, true, false, not, refl, sym, ap, subst, ◌∙◌, arith, inl, inr}
-use Rattle.std.specs.Prelude.{Contains, Option, Some, None, ◌&&◌, nat_eq, nat_lt, codes, min, MatchOption, IsTrue, ◌↔◌}
+use Rattle.std.specs.Prelude.{Option, Some, None, ◌&&◌, nat_eq, nat_lt, codes, min, MatchOption, IsTrue, ◌↔◌}
 use Rattle.std.specs.List.{list_any}
 use Rattle.std.specs.Str.{bytes_eq}
 use Rattle.std.proofs.lemmas.Slice.Eq.{bytes_eq-Decides}
-use Rattle.std.proofs.lemmas.List.{get_or_default, take_more, take_all}
+use Rattle.std.proofs.lemmas.List.{get_or_default, take_all}
 use Rattle.std.proofs.lemmas.Bool.Decides.{nat_tests}
 use Rattle.kif_tree.specs.Names.{is_function_word}
 use Rattle.kif_tree.specs.Shape.{is_among, logical_words}
@@ -15,7 +15,6 @@ use Rattle.kif_tree.specs.declared.form.Form.TheVariants as form
 use Rattle.kif_tree.specs.declared.place.Located.{Located}
 use Rattle.kif_tree.specs.declared.place.Place.{Place}
 use Rattle.taxonomy.proofs.FormLaws.{word_text-Word, parts_of-List}
-use Rattle.taxonomy.specs.Told.{word_text, parts_of}
 use Rattle.signatures.specs.Arities.{IsArity}
 use Rattle.signatures.specs.Tables.{AreSignatures, arity_in, types_in}
 use Rattle.signatures.specs.Types.{AreTypes}
@@ -28,7 +27,7 @@ use Rattle.diagnose.specs.Arguments.{is_row, IsWrongWord, IsWrongValue}
 use Rattle.diagnose.specs.Found.{Adds, OfSome}
 use Rattle.diagnose.specs.OfLists.{is_wrong_count, IsUnfitWord, IsUnfitFunction, IsMisfit, IsWrongParts, IsOfCount, IsOfType, IsOfArgument, IsOfTypes, IsOfHeaded, IsOfParts}
 use Rattle.diagnose.specs.declared.diagnostic.Diagnostic.{Diagnostic}
-use Rattle.diagnose.proofs.FoundLaws.{adds_none, adds_one, adds_same, adds_both, adds_all, none_of_none}
+use Rattle.diagnose.proofs.FoundLaws.{adds_one, adds_same, adds_both, adds_all, none_of_none}
 use Rattle.diagnose.proofs.NumberLaws.{no_types, types_one}
 
 -- ---- one diagnostic
@@ -88,9 +87,6 @@ these_types forms tables head bytes number types are same is =
 
 -- ---- the count
 
-exactly : (a b : ℕ) → Exactly a ≡ Exactly b → a ≡ b
-exactly a b e = cc
-
 both : (a b : Bool) → (not a && not b) ≡ true → (a ≡ false) × (b ≡ false)
 both false false h = (refl, refl)
 both true b h = absurd (cc)
@@ -148,9 +144,6 @@ module _ (forms : List Located) (type : TypeTold) (argument : Form) where
       (record { at = refl; code = refl; misfit = subst (IsMisfit forms type argument) (sym same) misfit; names = refl })
       (λ d h. same_diagnostic (record { code = 4; place = place; term = term; other = Some type.place }) d (sym h.code) (sym h.at) (same ∙ misfit_one blamed d.term misfit h.misfit) (sym h.names))
 
-  pub adds_no_type : (place : Place) (list : List Diagnostic) → ((term : Bytes) → IsMisfit forms type argument term → ⊥) → Adds (IsOfType forms place argument type) list list
-  adds_no_type place list none = adds_none (IsOfType forms place argument type) list (λ d h. none d.term h.misfit)
-
   pub word_misfit : (word : Bytes) → argument ≡ form.Word word → (type.class ≢ codes "Entity") → IsUnfitWord forms type word → IsMisfit forms type argument word
   word_misfit word is apart h = record { not_entity = apart; wrong = inl (record { is = is; has_parent = h.has_parent; unfit = h.unfit }) }
 
@@ -170,16 +163,6 @@ module _ (forms : List Located) (type : TypeTold) (argument : Form) where
       go : IsWrongWord forms type argument term ⊎ IsWrongValue forms type argument term → ⊥
       go (inl u) = word_no_list argument term parts u.is is
       go (inr v) = fits term (subst (λ (f : Form). IsWrongValue forms type f term) is v)
-
-  pub other_fits : ((text : Bytes) → argument ≡ form.Word text → ⊥) → ((parts : List Form) → argument ≡ form.List parts → ⊥) → (term : Bytes) → IsMisfit forms type argument term → ⊥
-  other_fits no_word no_list term h = go h.wrong
-    where
-      go : IsWrongWord forms type argument term ⊎ IsWrongValue forms type argument term → ⊥
-      go (inl u) = no_word term u.is
-      go (inr v) = no_list (form.Word term ∷ v.arguments) v.is
-
-  pub entity_fits : type.class ≡ codes "Entity" → (term : Bytes) → IsMisfit forms type argument term → ⊥
-  entity_fits is term h = h.not_entity is
 
   -- what is found in the list is to blame for the argument
   pub list_found : {X : Type 0} (view : X → Bytes) (o : Option X) (parts items : List Form) → argument ≡ form.List parts → items ≡ parts → (type.class ≢ codes "Entity")
@@ -202,19 +185,6 @@ fails_if P b h e p = let is : false ≡ true = sym e ∙ h.1 p in absurd (cc)
 -- ---- functions
 
 module _ (forms : List Located) (type : TypeTold) (parts : List Form) where
-  pub parts_wrong : (head : Form) (rest : List Form) (function : Bytes) → parts ≡ head ∷ rest → head ≡ form.Word function → is_function_word function ≡ true → IsUnfitFunction forms type function → IsWrongParts forms type parts function
-  parts_wrong head rest function is word named h = record {
-    arguments = rest;
-    is = ap form.List (is ∙ ap (λ (x : Form). x ∷ rest) word);
-    is_function = named;
-    range = h.range;
-    more = h.more;
-    has_range = h.has_range;
-    of_instances = h.of_instances;
-    wants_instances = h.wants_instances;
-    unfit = h.unfit;
-  }
-
   -- the parts begin with the function
   begins : (term : Bytes) (h : IsWrongParts forms type parts term) → parts ≡ form.Word term ∷ h.arguments
   begins term h = same_list (form.List parts) parts (form.Word term ∷ h.arguments) refl h.is
@@ -290,9 +260,6 @@ module _ (forms : List Located) (place : Place) (head : Bytes) where
 
   -- ---- the types of all arguments
 
-  pub types_none : (arguments : List Form) (list : List Diagnostic) → Adds (IsOfTypes forms place head arguments 0) list list
-  types_none arguments list = adds_none (IsOfTypes forms place head arguments 0) list (λ d h. let no : h.index < 0 = h.before_end in absurd (omega (arith, no)))
-
   pub types_more : (arguments : List Form) (i number : ℕ) (argument : Form) (old mid new : List Diagnostic) → i < length arguments → argument ≡ get_or arguments i argument → number ≡ min (i + 1) 4294967295
       → Adds (IsOfTypes forms place head arguments i) old mid → Adds (IsOfArgument forms place head number argument) mid new → Adds (IsOfTypes forms place head arguments (i + 1)) old new
   types_more arguments i number argument old mid new lt is capped first second =
@@ -307,7 +274,7 @@ module _ (forms : List Located) (place : Place) (head : Bytes) where
       which d h (inl b) = inl (record { index = h.index; argument = h.argument; within = h.within; before_end = b; stands = h.stands; of_argument = h.of_argument })
       which d h (inr e) =
           let same : h.argument ≡ argument =
-              sym h.stands ∙ get_or_default arguments h.index h.argument argument h.within ∙ ap (λ (n : ℕ). get_or arguments n argument) (sym e) ∙ sym is in
+          sym h.stands ∙ get_or_default arguments h.index h.argument argument h.within ∙ ap (λ (n : ℕ). get_or arguments n argument) (sym e) ∙ sym is in
           inr (capped_from number (i + 1) argument d capped
           (subst (λ (n : ℕ). IsOfArgument forms place head (n + 1) argument d) (sym e) (subst (λ (f : Form). IsOfArgument forms place head (h.index + 1) f d) same h.of_argument)))
 
@@ -324,17 +291,6 @@ module _ (forms : List Located) (place : Place) (head : Bytes) where
 -- ---- a list of parts
 
 module _ (forms : List Located) (place : Place) (parts : List Form) where
-  pub adds_empty : parts ≡ [] → (list : List Diagnostic) → Adds (IsOfParts forms place parts) list list
-  adds_empty is list = adds_none (IsOfParts forms place parts) list (λ d h. let e : [] ≡ form.Word h.head ∷ h.arguments = sym is ∙ h.is in absurd (cc))
-
-  pub adds_headless : (head : Form) (rest : List Form) → parts ≡ head ∷ rest → ((text : Bytes) → head ≡ form.Word text → ⊥) → (list : List Diagnostic) → Adds (IsOfParts forms place parts) list list
-  adds_headless head rest is other list = adds_none (IsOfParts forms place parts) list (λ d h. other h.head (first_part head (form.Word h.head) rest h.arguments (sym is ∙ h.is)))
-
-  pub adds_logical : (head : Form) (rest : List Form) (word : Bytes) → parts ≡ head ∷ rest → head ≡ form.Word word → is_among logical_words word ≡ true → (list : List Diagnostic) → Adds (IsOfParts forms place parts) list list
-  adds_logical head rest word is headed logical list = adds_none (IsOfParts forms place parts) list (λ d h.
-      let same : h.head ≡ word = same_word head h.head word (first_part head (form.Word h.head) rest h.arguments (sym is ∙ h.is)) headed in
-      let e : true ≡ false = sym logical ∙ ap (is_among logical_words) (sym same) ∙ h.not_logical in absurd (cc))
-
   pub adds_headed : (head : Form) (arguments : List Form) (word : Bytes) → parts ≡ head ∷ arguments → head ≡ form.Word word → is_among logical_words word ≡ false → (old mid new : List Diagnostic)
       → Adds (IsOfCount forms place word arguments) old mid → Adds (IsOfTypes forms place word arguments (length arguments)) mid new → Adds (IsOfParts forms place parts) old new
   adds_headed head arguments word is headed plain old mid new first second =

@@ -1,7 +1,7 @@
 -- Words of told `subclass` forms.
-use Rattle.std.proofs.Common.{◌≡◌, ◌≢◌, ℕ, zero, suc, ◌+◌, ◌<◌, ◌≤◌, ◌⊎◌, ◌↔◌, ◌||◌, List, [], ◌∷◌, ◌++◌, length, get_or, take, Bool, true, false, refl, sym, ap, ap₂, subst, ◌∙◌, arith, inl, inr, if◌then◌else◌, codes}
+use Rattle.std.proofs.Common.{◌≡◌, ℕ, ◌+◌, ◌<◌, ◌≤◌, ◌⊎◌, ◌↔◌, ◌||◌, List, [], ◌∷◌, ◌++◌, length, get_or, take, Bool, true, false, refl, sym, ap, ap₂, subst, ◌∙◌, inl, inr, if◌then◌else◌, codes}
 use Rattle.std.specs.Prelude.{Contains, Option, Some, None}
-use Rattle.std.specs.List.{filter_map, cons_option}
+use Rattle.std.specs.List.{cons_option}
 use Rattle.std.specs.Str.{bytes_eq}
 use Rattle.std.proofs.lemmas.List.{take_more, take_all}
 use Rattle.std.proofs.lemmas.List.Elements.{Contains-append_left, Contains-push, Contains-push_cases}
@@ -11,7 +11,6 @@ use Rattle.kif_tree.specs.Terms.{Bytes}
 use Rattle.kif_tree.specs.declared.form.Form.{Form}
 use Rattle.kif_tree.specs.declared.form.Form.TheVariants as form
 use Rattle.kif_tree.specs.declared.place.Located.{Located}
-use Rattle.kif_tree.specs.declared.place.Place.{Place}
 use Rattle.taxonomy.specs.declared.told.ChainKind.{ChainKind}
 use Rattle.taxonomy.specs.declared.told.ChainKind.TheVariants as kinds
 use Rattle.taxonomy.specs.Told.{Link, links, told_link, told_words, link_of_words, link_of_kind, kind_of}
@@ -111,9 +110,6 @@ from_class_word forms word h =
 
 -- ---- the set, form by form
 
-pub no_words : (word : Bytes) → (is_among [] word ≡ true) ↔ HasSubclassForm [] word
-no_words word = (λ h. absurd (cc), λ h. absurd (contains_nothing h.located h.among))
-
 pub words_more : (forms : List Located) (i : ℕ) (located : Located) (old new : List Bytes) → i < length forms → located ≡ get_or forms i located
     → ((word : Bytes) → (is_among old word ≡ true) ↔ HasSubclassForm (take i forms) word)
     → ((word : Bytes) → (is_among new word ≡ true) ↔ ((is_among old word ≡ true) ⊎ IsOfSubclassForm located.form word))
@@ -161,17 +157,10 @@ or_right : (a b : Bool) → b ≡ true → (a || b) ≡ true
 or_right true b h = refl
 or_right false b h = h
 
-pub words_none : (f : Form) (words : List Bytes) → ((low high : Bytes) → f ≡ subclass_form low high → ⊥) → (word : Bytes) → (is_among words word ≡ true) ↔ ((is_among words word ≡ true) ⊎ IsOfSubclassForm f word)
-words_none f words other word = (λ h. inl h, back)
-  where
-    back : (is_among words word ≡ true) ⊎ IsOfSubclassForm f word → is_among words word ≡ true
-    back (inl h) = h
-    back (inr h) = absurd (other h.low h.high h.tells)
-
 parts_of_subclass : (low high a b : Bytes) → subclass_form low high ≡ subclass_form a b → (low ≡ a) × (high ≡ b)
 parts_of_subclass low high a b e =
     let words : Some (codes "subclass" ∷ low ∷ high ∷ []) ≡ Some (codes "subclass" ∷ a ∷ b ∷ []) =
-        sym ((told_words_are (subclass_form low high) (codes "subclass") (low ∷ high ∷ [])).1 refl) ∙ (told_words_are (subclass_form low high) (codes "subclass") (a ∷ b ∷ [])).1 e in
+    sym ((told_words_are (subclass_form low high) (codes "subclass") (low ∷ high ∷ [])).1 refl) ∙ (told_words_are (subclass_form low high) (codes "subclass") (a ∷ b ∷ [])).1 e in
     (cc, cc)
 
 pub words_both : (f : Form) (low high first second : Bytes) (old mid new : List Bytes) → f ≡ subclass_form low high → first ≡ low → second ≡ high

@@ -1,8 +1,8 @@
 -- Diagnostics of a form's lists by those of each list.
-use Rattle.std.proofs.Common.{◌≡◌, ℕ, zero, suc, ◌+◌, ◌<◌, ◌≤◌, ◌⊎◌, List, [], ◌∷◌, ◌++◌, length, get_or, take, drop, map, refl, sym, ap, ap₂, subst, ◌∙◌, arith, inl, inr, length-append, add-one, drop-cons}
-use Rattle.std.specs.Prelude.{Contains, Option, Some, None}
+use Rattle.std.proofs.Common.{◌≡◌, ℕ, zero, suc, ◌+◌, ◌<◌, ◌≤◌, ◌⊎◌, List, [], ◌∷◌, ◌++◌, length, get_or, take, drop, map, refl, sym, ap, ap₂, subst, ◌∙◌, arith, inl, inr, length-append}
+use Rattle.std.specs.Prelude.{Contains}
 use Rattle.std.specs.List.{flat_map}
-use Rattle.std.proofs.lemmas.List.{take-append-drop, get_or_default, length-take-le}
+use Rattle.std.proofs.lemmas.List.{length-take-le}
 use Rattle.std.proofs.lemmas.List.Elements.{Contains-append_left, Contains-append_right, Contains-append_cases}
 use Rattle.std.proofs.lemmas.List.Folds.{flat_map-map}
 use Rattle.std.proofs.Math.Seq.{get_or-append_seam}
@@ -15,12 +15,12 @@ use Rattle.kif_tree.specs.declared.form.Form.TheVariants as form
 use Rattle.kif_tree.specs.declared.place.Located.{Located}
 use Rattle.kif_tree.specs.declared.place.Place.{Place}
 use Rattle.signatures.specs.Types.{AreTypes}
-use Rattle.diagnose.specs.Arguments.{HasList, HasWrongCount, HasWrongType}
+use Rattle.diagnose.specs.Arguments.{HasList, HasWrongCount}
 use Rattle.diagnose.specs.Diagnostics.{IsOfArguments}
 use Rattle.diagnose.specs.Found.{Adds, OfSome}
-use Rattle.diagnose.specs.OfLists.{IsOfCount, IsOfType, IsOfArgument, IsOfTypes, IsOfHeaded, IsOfParts, IsMisfit}
+use Rattle.diagnose.specs.OfLists.{IsOfCount, IsOfTypes, IsOfHeaded, IsOfParts}
 use Rattle.diagnose.specs.declared.diagnostic.Diagnostic.{Diagnostic}
-use Rattle.diagnose.proofs.FoundLaws.{contains_first, contains_later, contains_cases, contains_nothing, adds_same, adds_both, adds_none, adds_all, none_of_none}
+use Rattle.diagnose.proofs.FoundLaws.{contains_first, contains_later, contains_cases, contains_nothing, adds_same, adds_both, adds_none, adds_all}
 
 -- ---- the lists of a form
 
@@ -107,33 +107,41 @@ split_at {X = X} (y ∷ xs) (suc i) x lt is =
 
 module _ (forms : List Located) (place : Place) (f : Form) where
   count_to : (head : Bytes) (arguments : List Form) (d : Diagnostic) → HasList f head arguments → IsOfCount forms place head arguments d → IsOfArguments forms f d
-  count_to head arguments d list h = inr (h.code, subst (λ (term : Bytes). HasWrongCount forms f term d.other) (sym h.term) (record {
-    arguments = arguments;
-    list = list;
-    no_row = h.no_row;
-    count = h.count;
-    arity = h.arity;
-    apart = h.apart;
-    alone = h.alone;
-  }))
+  count_to head arguments d list h = inr (
+    h.code,
+    subst (λ (term : Bytes). HasWrongCount forms f term d.other) (sym h.term) (record {
+      arguments = arguments;
+      list = list;
+      no_row = h.no_row;
+      count = h.count;
+      arity = h.arity;
+      apart = h.apart;
+      alone = h.alone;
+    }),
+  )
 
   types_to : (head : Bytes) (arguments : List Form) (d : Diagnostic) → HasList f head arguments → IsOfTypes forms place head arguments (length arguments) d → (d.place ≡ place) × IsOfArguments forms f d
   types_to head arguments d list h =
-      let t = h.of_argument in let o = t.of_type in let w = o.holds in
-      (w.at, inl (w.code, record {
-        head = head;
-        before = take h.index arguments;
-        argument = h.argument;
-        after = drop (h.index + 1) arguments;
-        list = subst (HasList f head) (split_at arguments h.index h.argument h.within h.stands) list;
-        types = t.types;
-        are_types = subst (λ (n : ℕ). AreTypes forms head (n + 1) t.types) (sym (length-take-le h.index arguments (omega (arith, h.within)))) t.are_types;
-        type = o.one;
-        among = o.among;
-        not_entity = w.misfit.not_entity;
-        wrong = w.misfit.wrong;
-        names = w.names;
-      }))
+      let t = h.of_argument in let o = t.of_type in let w = o.holds in (
+        w.at,
+        inl (
+          w.code,
+          record {
+            head = head;
+            before = take h.index arguments;
+            argument = h.argument;
+            after = drop (h.index + 1) arguments;
+            list = subst (HasList f head) (split_at arguments h.index h.argument h.within h.stands) list;
+            types = t.types;
+            are_types = subst (λ (n : ℕ). AreTypes forms head (n + 1) t.types) (sym (length-take-le h.index arguments (omega (arith, h.within)))) t.are_types;
+            type = o.one;
+            among = o.among;
+            not_entity = w.misfit.not_entity;
+            wrong = w.misfit.wrong;
+            names = w.names;
+          },
+        ),
+      )
 
   headed_to : (head : Bytes) (arguments : List Form) (d : Diagnostic) → HasList f head arguments → IsOfHeaded forms place head arguments d → (d.place ≡ place) × IsOfArguments forms f d
   headed_to head arguments d list (inl h) = (h.at, count_to head arguments d list h)

@@ -1,9 +1,8 @@
 -- What is wrong with the arguments of one list.
-use Rattle.std.specs.Prelude.{◌≡◌, ◌≢◌, ℕ, ◌+◌, ◌<◌, ◌⊎◌, List, [], ◌∷◌, length, slice_index_or, Bool, true, false, not, ◌&&◌, nat_eq, codes, Option, Some, None, Contains}
+use Rattle.std.specs.Prelude.{◌≡◌, ◌≢◌, ℕ, ◌+◌, ◌<◌, ◌⊎◌, List, [], ◌∷◌, length, slice_index_or, Bool, false, not, ◌&&◌, nat_eq, codes, Some, None}
 use Rattle.std.specs.List.{list_any}
 use Rattle.kif_tree.specs.Terms.{Bytes}
 use Rattle.kif_tree.specs.Shape.{is_among, logical_words}
-use Rattle.kif_tree.specs.Names.{is_function_word}
 use Rattle.kif_tree.specs.declared.form.Form.{Form}
 use Rattle.kif_tree.specs.declared.form.Form.TheVariants as form
 use Rattle.kif_tree.specs.declared.place.Located.{Located}

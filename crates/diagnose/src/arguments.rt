@@ -228,7 +228,7 @@ fn add_of_type(
 fn misfit_in<'a>(given: Given<'_>, type_told: &TypeTold, argument: &'a Form) -> Option<&'a Text>
     ensures { (forms : List Located) → AreGiven forms given.entry
         → MatchOption result ((term : Bytes) → of_lists.IsMisfit forms type_told.now argument.now term → ⊥)
-            (λ term. of_lists.IsMisfit forms type_told.now argument.now term.now) }
+        (λ term. of_lists.IsMisfit forms type_told.now argument.now term.now) }
 {
     if type_told.class.bytes() == b"Entity".as_slice() {
         return None;
@@ -291,7 +291,7 @@ fn unfit_function_in<'a>(
 ) -> Option<&'a Text>
     ensures { (forms : List Located) → AreGiven forms given.entry
         → MatchOption result ((term : Bytes) → of_lists.IsWrongParts forms type_told.now parts.now term → ⊥)
-            (λ term. of_lists.IsWrongParts forms type_told.now parts.now term.now) }
+        (λ term. of_lists.IsWrongParts forms type_told.now parts.now term.now) }
 {
     let [head, ..] = parts else {
         return None;

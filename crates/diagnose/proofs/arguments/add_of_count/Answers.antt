@@ -1,8 +1,4 @@
-use Rattle.std.proofs.Common.{sym, ap, subst, ◌∙◌}
-use Rattle.kif_tree.specs.Terms.{Bytes}
-use Rattle.signatures.specs.Arities.{IsArity}
-use Rattle.signatures.specs.Tables.{arity_in}
-use Rattle.signatures.specs.declared.told.Arity.{Arity}
+use Rattle.std.proofs.Common.{sym, ◌∙◌}
 use Rattle.diagnose.proofs.ArgumentLaws.{no_count, adds_count, is_arity}
 use Rattle.diagnose.proofs.FoundLaws.{adds_none}
 use Rattle.diagnose.specs.OfLists.{IsOfCount}

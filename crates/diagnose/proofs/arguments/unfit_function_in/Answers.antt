@@ -1,4 +1,4 @@
-use Rattle.std.proofs.Common.{sym, ap, drop, ◌∙◌, false, true, subst, ◌≡◌}
+use Rattle.std.proofs.Common.{sym, ap, drop, ◌∙◌, subst}
 use Rattle.kif_tree.specs.Names.{is_function_word}
 use Rattle.kif_tree.specs.Terms.{Bytes}
 use Rattle.diagnose.specs.OfLists.{IsUnfitFunction}
