@@ -9,3 +9,8 @@ pub mod WholeLaws
 mod NewWordLaws
 mod WordFaultLaws
 mod WordTableLaws
+pub mod ArgumentLaws
+pub mod ClassWordLaws
+pub mod FoundLaws
+pub mod ListLaws
+pub mod NumberLaws

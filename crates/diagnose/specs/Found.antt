@@ -1,5 +1,5 @@
 -- Diagnostics as they are found.
-use Rattle.std.specs.Prelude.{◌≡◌, ◌⊎◌, List, Contains}
+use Rattle.std.specs.Prelude.{◌⊎◌, List, Contains}
 use Rattle.diagnose.specs.declared.diagnostic.Diagnostic.{Diagnostic}
 
 -- just those for which P holds were added

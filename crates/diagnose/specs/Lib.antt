@@ -1,10 +1,13 @@
 pub mod Arguments
+pub mod ClassWords
 pub mod Diagnostics
 pub mod Found
 pub mod Laws
 pub mod Order
 pub mod SoFar
 pub mod VariableWalk
+pub mod Given
+pub mod OfLists
 pub mod Variables
 pub mod WordFaults
 pub mod WordTables

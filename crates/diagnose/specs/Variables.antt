@@ -1,5 +1,5 @@
 -- Variables that are free where they should be quantified, or quantified where they aren't free.
-use Rattle.std.specs.Prelude.{◌≡◌, ◌⊎◌, List, [], ◌∷◌, codes, Option, None, Contains}
+use Rattle.std.specs.Prelude.{◌≡◌, ◌⊎◌, [], ◌∷◌, codes, Option, None, Contains}
 use Rattle.kif_tree.specs.Terms.{Bytes}
 use Rattle.kif_tree.specs.Names.{free, lists, bound}
 use Rattle.kif_tree.specs.declared.form.Form.{Form}

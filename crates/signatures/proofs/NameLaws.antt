@@ -41,7 +41,7 @@ use Rattle.signatures.proofs.ArityLaws.{own_one}
 no_both : (a b : Bytes) → IsBefore a b → IsBefore b a → ⊥
 no_both a b h k = let e : Less ≡ ordering_reverse Less = sym h ∙ nat_list_cmp_total.antisymm a b ∙ ap ordering_reverse k in absurd (cc)
 
-nearest_one : (ls : List Link) (Has : Bytes → Type 0) (word a b : Bytes) → IsNearest ls Has word a → IsNearest ls Has word b → a ≡ b
+pub nearest_one : (ls : List Link) (Has : Bytes → Type 0) (word a b : Bytes) → IsNearest ls Has word a → IsNearest ls Has word b → a ≡ b
 nearest_one ls Has word a b n m = go (n.first b m.has (subst (IsDistance ls kinds.Relation word b) (sym same) m.reached)) (m.first a n.has (subst (IsDistance ls kinds.Relation word a) same n.reached))
   where
     same : n.distance ≡ m.distance
