@@ -2,12 +2,12 @@ pub mod Arguments
 pub mod ClassWords
 pub mod Diagnostics
 pub mod Found
+pub mod Given
 pub mod Laws
+pub mod OfLists
 pub mod Order
 pub mod SoFar
 pub mod VariableWalk
-pub mod Given
-pub mod OfLists
 pub mod Variables
 pub mod WordFaults
 pub mod WordTables
