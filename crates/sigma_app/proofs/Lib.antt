@@ -4,6 +4,7 @@ pub mod FileLaws
 pub mod MatchLaws
 pub mod OutcomeLaws
 pub mod ParserLaws
+pub mod PlaceLaws
 pub mod PlainLaws
 pub mod ProofLaws
 pub mod RepeatLaws
