@@ -1,4 +1,5 @@
 pub mod AtomLaws
+pub mod DiagnosticLaws
 pub mod EvidenceLaws
 pub mod FileLaws
 pub mod MatchLaws

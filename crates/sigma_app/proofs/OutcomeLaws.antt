@@ -29,14 +29,9 @@ use Rattle.sigma_app.specs.Page.{answer_text, end_text}
 use Rattle.sigma_app.specs.Files.{load_names}
 use Rattle.sigma_app.specs.CheckPage.{check_page}
 use Rattle.sigma_app.proofs.PlaceLaws.{whole_apart}
-use Rattle.diagnose.specs.declared.diagnostic.Diagnostic.{Diagnostic}
-use Rattle.diagnose.specs.Diagnostics.{AreDiagnostics}
+use Rattle.sigma_app.proofs.DiagnosticLaws.{one_list}
 use Rattle.sigma_app.specs.Tool.{Is, usage, not_built, absent_text, long_text, live_text, many_text, fault_in, syntax_text, has_option, found_page, Shows, SpellsQuery, OnForms, ShowsDiagnostics, Following, IsFaulty, OnTexts, OnParts, OnFiles, OnPaths, OnAsked, OnBuilt, HasMeaning, Tool}
 use Rattle.sigma_app.specs.Laws.{SameOutcome}
-
--- PENDING
-one_list : (forms : List Located) (a b : List Diagnostic) → PlacesDiffer forms → AreDiagnostics forms a → AreDiagnostics forms b → a ≡ b
-one_list forms a b apart x y = ?
 
 is_one : (wanted : ℕ) (shown : Bytes) (status other : ℕ) (text page : Bytes) → Is wanted shown status text → Is wanted shown other page → SameOutcome status other text page
 is_one wanted shown status other text page a b = (a.done ∙ sym b.done, a.page_is ∙ sym b.page_is)

@@ -24,8 +24,7 @@ from_next constituent number located (here, late) = (here, omega (arith, late))
 spelled_from : (constituent number : ℕ) (forms : List Located) (tokens : List Lexed) → SpellsForms constituent number forms tokens → Each (IsFrom constituent number) forms
 spelled_from constituent number [] tokens h = tt
 spelled_from constituent number (located ∷ more) tokens h =
-    let at : located.place.form ≡ number = h.3.number_is in
-    (
+    let at : located.place.form ≡ number = h.3.number_is in (
       (h.3.constituent_is, omega (arith, at)),
       each_map (IsFrom constituent (number + 1)) (IsFrom constituent number) (from_next constituent number) more (spelled_from constituent (number + 1) more h.1 h.4),
     )

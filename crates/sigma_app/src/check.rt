@@ -14,7 +14,11 @@ use std::alloc::Global;
 use taxonomy::Taxonomy;
 
 /// The page of all diagnostics of the forms of all files.
-pub fn diagnostics_reply(alloc: Global, parts: &[Part], forms: &[Located]) -> Result<Reply, NoMemory>
+pub fn diagnostics_reply(
+    alloc: Global,
+    parts: &[Part],
+    forms: &[Located],
+) -> Result<Reply, NoMemory>
     requires { PlacesDiffer forms.now }
     ensures { IfOk result (λ reply. spec.ShowsDiagnostics parts.now forms.now reply.status reply.text) }
 {

@@ -107,11 +107,7 @@ fn append_diagnostics(
 
 /// A line for each diagnostic, and last how many there are. The places show the names of the loads.
 #[tactic(auto, unfolding(crate::specs::CheckPage::check_page))]
-pub fn check_page(
-    alloc: Global,
-    names: &[LoadName],
-    list: &[Diagnostic],
-) -> Result<Text, NoMemory>
+pub fn check_page(alloc: Global, names: &[LoadName], list: &[Diagnostic]) -> Result<Text, NoMemory>
     ensures { IfOk result (λ page. page ≡ spec.check_page names.now list.now) }
 {
     let mut page = Text::new(alloc);

@@ -41,11 +41,7 @@ fn forms_of(alloc: Global, parts: Listed<Part>) -> Result<Gathering, NoMemory>
 {
     let size = live_size(parts.items());
     if size > LIVE_LIMIT {
-        return Ok(Gathering::Stopped(limit_reply(
-            alloc,
-            b"limit live ",
-            size,
-        )?));
+        return Ok(Gathering::Stopped(limit_reply(alloc, b"limit live ", size)?));
     }
     Ok(match read_parts(alloc, parts.items())? {
         Reading::Forms(forms) => Gathering::Found(Gathered { parts, forms }),
@@ -54,11 +50,7 @@ fn forms_of(alloc: Global, parts: Listed<Part>) -> Result<Gathering, NoMemory>
 }
 
 /// The forms of files that are few enough.
-fn gather_few<F: Files>(
-    alloc: Global,
-    paths: &[&str],
-    files: &mut F,
-) -> Result<Gathering, NoMemory>
+fn gather_few<F: Files>(alloc: Global, paths: &[&str], files: &mut F) -> Result<Gathering, NoMemory>
     requires few { length paths.now ≤ 64 }
     requires apart { stand_twice (map (λ s. s.now) paths.now) ≡ false }
     ensures told { F.told files.new ≡ F.told files.old }
@@ -73,11 +65,7 @@ fn gather_few<F: Files>(
 
 /// The forms of the files of these paths, each fetched in order. The number of the files, a file that isn't found whole, the bytes of all
 /// of them and the first fault of their texts may end the work.
-pub fn gather<F: Files>(
-    alloc: Global,
-    paths: &[&str],
-    files: &mut F,
-) -> Result<Gathering, NoMemory>
+pub fn gather<F: Files>(alloc: Global, paths: &[&str], files: &mut F) -> Result<Gathering, NoMemory>
     requires apart { stand_twice (map (λ s. s.now) paths.now) ≡ false }
     ensures told { F.told files.new ≡ F.told files.old }
     ensures gathers { IfOk result (λ gathering. run.Gathers (map (λ s. s.now) paths.now) (F.told files.old) (F.faults files.old) (F.faults files.new) gathering) }
@@ -86,11 +74,7 @@ pub fn gather<F: Files>(
 {
     let count = paths.len();
     if count > FILE_LIMIT {
-        return Ok(Gathering::Stopped(limit_reply(
-            alloc,
-            b"limit files ",
-            count as u64,
-        )?));
+        return Ok(Gathering::Stopped(limit_reply(alloc, b"limit files ", count as u64)?));
     }
     gather_few(alloc, paths, files)
 }

@@ -558,8 +558,7 @@ fn keeps_the_limits(rt: HostRuntime) -> Result<(), Fail> {
 fn keeps_the_limit_of_a_query(rt: HostRuntime) -> Result<(), Fail> {
     for (length, status, printed) in [(FULL, 10, "not built\n"), (FULL + 1, 2, USAGE)] {
         let query = spaces(&rt, rt.alloc(), length)?;
-        let (ended, text) =
-            over_spaces(&rt, rt.alloc(), &["ask", expect_text(&rt, &query)], &[1])?;
+        let (ended, text) = over_spaces(&rt, rt.alloc(), &["ask", expect_text(&rt, &query)], &[1])?;
         assert_eq!(rt; ended, status);
         assert_eq!(rt; text.bytes(), printed.as_bytes());
     }

@@ -105,14 +105,7 @@ fn ends_where_a_file_is_not_read(rt: HostRuntime) -> Result<(), Fail> {
             ),
             failing(BOTH, WATERS, &[2], &[], 4, "file fault b.kif\n"),
             failing(BOTH, WATERS, &[1], &[1], 8, ""),
-            failing(
-                BOTH,
-                &[("a.kif", ""), ("b.kif", ")")],
-                &[3],
-                &[1],
-                8,
-                "",
-            ),
+            failing(BOTH, &[("a.kif", ""), ("b.kif", ")")], &[3], &[1], 8, ""),
         ],
     )?;
     Ok(())
@@ -126,9 +119,23 @@ fn refuses_the_words_of_a_check(rt: HostRuntime) -> Result<(), Fail> {
         rt.alloc(),
         &[
             failing(&["check"], WATERS, first, &[], 2, USAGE),
-            failing(&["check", "--kept", "9", "a.kif"], WATERS, first, &[], 2, USAGE),
+            failing(
+                &["check", "--kept", "9", "a.kif"],
+                WATERS,
+                first,
+                &[],
+                2,
+                USAGE,
+            ),
             failing(&["check", "a.kif", "a.kif"], WATERS, first, &[], 2, USAGE),
-            failing(&["check", "a.kif", "c.kif", "a.kif"], WATERS, first, &[], 2, USAGE),
+            failing(
+                &["check", "a.kif", "c.kif", "a.kif"],
+                WATERS,
+                first,
+                &[],
+                2,
+                USAGE,
+            ),
         ],
     )?;
     Ok(())

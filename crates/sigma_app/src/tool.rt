@@ -132,8 +132,12 @@ fn ask_reply<F: Files>(alloc: Global, ask: &Ask<'_>, files: &mut F) -> Result<Re
         return not_built(alloc);
     }
     match gather(alloc, ask.files.as_slice(), files)? {
-        Gathering::Found(found) =>
-            forms_reply(alloc, ask, found.parts.items(), found.forms.as_slice()),
+        Gathering::Found(found) => forms_reply(
+            alloc,
+            ask,
+            found.parts.items(),
+            found.forms.as_slice(),
+        ),
         Gathering::Stopped(reply) => Ok(reply),
     }
 }
@@ -147,8 +151,11 @@ fn check_reply<F: Files>(alloc: Global, paths: &[&str], files: &mut F) -> Result
     ensures unfetched { spec.reads_files (requests.checks (requests.texts paths.now)) ≡ false → F.faults files.new ≡ F.faults files.old }
 {
     match gather(alloc, paths, files)? {
-        Gathering::Found(found) =>
-            diagnostics_reply(alloc, found.parts.items(), found.forms.as_slice()),
+        Gathering::Found(found) => diagnostics_reply(
+            alloc,
+            found.parts.items(),
+            found.forms.as_slice(),
+        ),
         Gathering::Stopped(reply) => Ok(reply),
     }
 }
@@ -197,9 +204,9 @@ fn print_reply<S: Sink>(out: &mut S, reply: &Reply) -> u8
     }
 }
 
-/// Does what the words ask, with files from `files`, and prints to `out`. The answer is the status: 0 an answer is shown, 1 none is,
-/// 2 the words are refused, 3 a file is absent, 4 one could not be fetched, 5 a text has a fault, 6 a limit is passed, 8 a write failed,
-/// 9 want of memory, 10 the command, an option, a form of a file or the query is not built yet.
+/// Does what the words ask, with files from `files`, and prints to `out`. The answer is the status: 0 an answer or the page of a check is
+/// shown, 1 no answer is, 2 the words are refused, 3 a file is absent, 4 one could not be fetched, 5 a text has a fault, 6 a limit is
+/// passed, 8 a write failed, 9 want of memory, 10 the command, an option, the query or a form under a query is not built yet.
 pub fn run_tool<F: Files, S: Sink>(alloc: Global, words: &Words, files: &mut F, out: &mut S) -> u8
     // Status and text are the tool's for some contents; where the files tell what they hold, for just these. An answer that is shown has
     // a proof: a derivation that ends in just what is shown, whose cited lines hold its premises and whose evidence refutes.
