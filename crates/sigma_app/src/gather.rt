@@ -1,7 +1,7 @@
 //! The forms of the files of a command: the work that goes before what the command does with them.
-ghost use Rattle.std.specs.Prelude.{◌≡◌, ◌≤◌, false, nat_le, map, length, IfOk, OnErr};
+ghost use Rattle.std.specs.Prelude.{◌≡◌, ◌≤◌, false, nat_le, length, IfOk, OnErr};
 ghost use Rattle.sigma_app.specs.Files as files_spec;
-ghost use Rattle.sigma_app.specs.Requests.{stand_twice};
+ghost use Rattle.sigma_app.specs.Requests.{stand_twice, texts};
 ghost use Rattle.sigma_app.specs.Tool as spec;
 ghost use Rattle.sigma_app.specs.Run as run;
 
@@ -52,9 +52,9 @@ fn forms_of(alloc: Global, parts: Listed<Part>) -> Result<Gathering, NoMemory>
 /// The forms of files that are few enough.
 fn gather_few<F: Files>(alloc: Global, paths: &[&str], files: &mut F) -> Result<Gathering, NoMemory>
     requires few { length paths.now ≤ 64 }
-    requires apart { stand_twice (map (λ s. s.now) paths.now) ≡ false }
+    requires apart { stand_twice (texts paths.now) ≡ false }
     ensures told { F.told files.new ≡ F.told files.old }
-    ensures gathers { IfOk result (λ gathering. run.Gathers (map (λ s. s.now) paths.now) (F.told files.old) (F.faults files.old) (F.faults files.new) gathering) }
+    ensures gathers { IfOk result (λ gathering. run.Gathers (texts paths.now) (F.told files.old) (F.faults files.old) (F.faults files.new) gathering) }
     ensures cause { OnErr result (run.MayHaveRisen (F.faults files.old) (F.faults files.new)) }
 {
     match fetch_files(alloc, paths, files)? {
@@ -66,9 +66,9 @@ fn gather_few<F: Files>(alloc: Global, paths: &[&str], files: &mut F) -> Result<
 /// The forms of the files of these paths, each fetched in order. The number of the files, a file that isn't found whole, the bytes of all
 /// of them and the first fault of their texts may end the work.
 pub fn gather<F: Files>(alloc: Global, paths: &[&str], files: &mut F) -> Result<Gathering, NoMemory>
-    requires apart { stand_twice (map (λ s. s.now) paths.now) ≡ false }
+    requires apart { stand_twice (texts paths.now) ≡ false }
     ensures told { F.told files.new ≡ F.told files.old }
-    ensures gathers { IfOk result (λ gathering. run.Gathers (map (λ s. s.now) paths.now) (F.told files.old) (F.faults files.old) (F.faults files.new) gathering) }
+    ensures gathers { IfOk result (λ gathering. run.Gathers (texts paths.now) (F.told files.old) (F.faults files.old) (F.faults files.new) gathering) }
     ensures cause { OnErr result (run.MayHaveRisen (F.faults files.old) (F.faults files.new)) }
     ensures unfetched { nat_le (length paths.now) files_spec.file_limit ≡ false → F.faults files.new ≡ F.faults files.old }
 {

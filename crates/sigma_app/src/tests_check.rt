@@ -145,16 +145,10 @@ const FULL: usize = 8_388_608;
 
 #[test]
 fn keeps_the_limits_of_files(rt: HostRuntime) -> Result<(), Fail> {
-    let cases: [(&[usize], u8, &str); 5] = [
+    let cases: [(&[usize], u8, &str); 3] = [
         (&[0, FULL + 1], 6, "limit file f2\n"),
-        (
-            &[FULL, FULL, FULL, FULL, FULL, FULL, FULL, FULL, 1],
-            6,
-            "limit live 67108865\n",
-        ),
         (&[0; 65], 6, "limit files 65\n"),
         (&[1; 64], 0, NONE),
-        (&[FULL], 0, NONE),
     ];
     for (lengths, status, printed) in cases {
         let (ended, text) = over_spaces(&rt, rt.alloc(), &["check"], lengths)?;
