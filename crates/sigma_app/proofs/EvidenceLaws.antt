@@ -29,11 +29,12 @@ use Rattle.calculus.proofs.MemberLaws.{among-map}
 use Rattle.calculus.proofs.QueryLaws.{query_evidence}
 use Rattle.sigma_app.specs.declared.page.ProofLine.{ProofLine}
 use Rattle.sigma_app.specs.declared.files.Part.{Part}
-use Rattle.sigma_app.specs.Requests.{Asked, Meaning, asks, checks, gives_clauses, exports, drills, Means, is_refused}
+use Rattle.sigma_app.specs.Requests.{Asked, Meaning, asks, Means, is_refused}
+use Rattle.sigma_app.proofs.RequestLaws.{means_one}
 use Rattle.sigma_app.specs.Plain.{IsPlainAtom}
-use Rattle.sigma_app.specs.Files.{Contents, AreWhole, live_size, SpellParts}
+use Rattle.sigma_app.specs.Files.{Contents, file_limit, live_limit, AreWhole, live_size, SpellParts}
 use Rattle.sigma_app.specs.Proof.{unit_clause, asked_clause, query_clause, values, answer_clause, lines_of}
-use Rattle.sigma_app.specs.Tool.{Is, usage, not_built, live_text, many_text, live_limit, file_limit, has_option, IsPlainFact, IsPlain, Shows, ShowsAnswer, OnForms, OnTexts, OnFiles, OnBuilt, Tool}
+use Rattle.sigma_app.specs.Tool.{Is, usage, not_built, live_text, many_text, has_option, IsPlainFact, IsPlain, Shows, ShowsAnswer, OnForms, OnTexts, OnFiles, OnPaths, OnAsked, OnMeaning, Tool}
 use Rattle.sigma_app.specs.Evidence.{input_of_fact, input_of_query, search_inputs, clauses_of, line_of, ShowSteps, Holds, IsProof, ShowsProof}
 use Rattle.sigma_app.proofs.AtomLaws.{fact_ground, query_rowless}
 use Rattle.sigma_app.proofs.ProofLaws.{renamed_values, ground_rowless, ground_values, ground_terms, clean-answer, answer-answers, bind-answer, query_clause-is, old_names, resolution, resolution-concludes, filled_ground, map-variables}
@@ -345,42 +346,34 @@ module _ (words : List Bytes) (contents : Contents) (status : ℕ) (text : Bytes
         by_shown (inr none) = other 1 none.done refl
     forms_shown parts whole facts spelled (inr declines) = other 10 declines.is.done refl
 
-    texts_shown : (parts : List Part) → AreWhole contents 1 asked.paths parts → OnTexts asked parts status text → ShowsProof words contents text
+    texts_shown : (parts : List Part) → AreWhole contents 1 asked.paths parts → OnTexts (OnForms asked) parts status text → ShowsProof words contents text
     texts_shown parts whole (inl fault) = other 5 fault.faulty.is.done refl
-    texts_shown parts whole (inr spelled) = forms_shown parts whole spelled.facts spelled.spelled spelled.on_forms
+    texts_shown parts whole (inr spelled) = forms_shown parts whole spelled.forms spelled.spelled spelled.follows
 
     parts_shown : (parts : List Part) → AreWhole contents 1 asked.paths parts → (fits : Bool)
-        → MatchBool fits (OnTexts asked parts status text) (Is 6 (live_text (live_size parts)) status text) → ShowsProof words contents text
+        → MatchBool fits (OnTexts (OnForms asked) parts status text) (Is 6 (live_text (live_size parts)) status text) → ShowsProof words contents text
     parts_shown parts whole true h = texts_shown parts whole h
     parts_shown parts whole false h = other 6 h.done refl
 
-    files_shown : OnFiles asked contents status text → ShowsProof words contents text
+    files_shown : OnFiles (OnForms asked) asked.paths contents status text → ShowsProof words contents text
     files_shown (inl absent) = other 3 absent.is.done refl
     files_shown (inr (inl long)) = other 6 long.is.done refl
     files_shown (inr (inr found)) = parts_shown found.parts found.whole (nat_le (live_size found.parts) live_limit) found.on_parts
 
-    count_shown : (few : Bool) → MatchBool few (OnFiles asked contents status text) (Is 6 (many_text (length asked.paths)) status text) → ShowsProof words contents text
+    count_shown : (few : Bool) → MatchBool few (OnFiles (OnForms asked) asked.paths contents status text) (Is 6 (many_text (length asked.paths)) status text) → ShowsProof words contents text
     count_shown true h = files_shown h
     count_shown false h = other 6 h.done refl
 
-    asked_shown : (option : Bool)
-        → MatchBool option (Is 10 not_built status text) (MatchBool (nat_le (length asked.paths) file_limit) (OnFiles asked contents status text) (Is 6 (many_text (length asked.paths)) status text))
-        → ShowsProof words contents text
+    asked_shown : (option : Bool) → MatchBool option (Is 10 not_built status text) (OnPaths (OnForms asked) asked.paths contents status text) → ShowsProof words contents text
     asked_shown true h = other 10 h.done refl
     asked_shown false h = count_shown (nat_le (length asked.paths) file_limit) h
 
-  built_shown : (meaning : Meaning) → Means words meaning → OnBuilt meaning contents status text → ShowsProof words contents text
-  built_shown (asks asked) means h = asked_shown asked means (has_option asked) h
-  built_shown (checks paths) means h = other 10 h.done refl
-  built_shown (gives_clauses paths) means h = other 10 h.done refl
-  built_shown (exports paths) means h = other 10 h.done refl
-  built_shown (drills size) means h = other 10 h.done refl
+    meaning_shown : (refused : Bool) → MatchBool refused (Is 2 usage status text) (OnAsked asked contents status text) → ShowsProof words contents text
+    meaning_shown true h = other 2 h.done refl
+    meaning_shown false h = asked_shown (has_option asked) h
 
-  meaning_shown : (meaning : Meaning) → Means words meaning → (refused : Bool) → MatchBool refused (Is 2 usage status text) (OnBuilt meaning contents status text) → ShowsProof words contents text
-  meaning_shown meaning means true h = other 2 h.done refl
-  meaning_shown meaning means false h = built_shown meaning means h
-
-  -- what the tool shows has a proof
-  pub shows_proof : Tool words contents status text → ShowsProof words contents text
-  shows_proof (inl has) = meaning_shown has.meaning has.means (is_refused has.meaning) has.on_meaning
-  shows_proof (inr none) = other 2 none.is.done refl
+    -- what the tool shows to a query has a proof
+    pub shows_proof : Tool words contents status text → ShowsProof words contents text
+    shows_proof (inl has) =
+        meaning_shown (is_refused (asks asked)) (subst (λ (m : Meaning). OnMeaning m contents status text) (means_one words has.meaning (asks asked) has.means means) has.on_meaning)
+    shows_proof (inr none) = other 2 none.is.done refl

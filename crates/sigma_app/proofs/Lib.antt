@@ -1,9 +1,11 @@
 pub mod AtomLaws
+pub mod DiagnosticLaws
 pub mod EvidenceLaws
 pub mod FileLaws
 pub mod MatchLaws
 pub mod OutcomeLaws
 pub mod ParserLaws
+pub mod PlaceLaws
 pub mod PlainLaws
 pub mod ProofLaws
 pub mod RepeatLaws

@@ -7,6 +7,7 @@ use Rattle.sigma_base.specs.Lists.{Each, each_map, map_each}
 use Rattle.kif_tree.specs.declared.form.Form.{Form}
 use Rattle.kif_tree.specs.declared.place.Located.{Located}
 use Rattle.kif_tree.specs.declared.subst.Pair.{Pair}
+use Rattle.kif_tree.specs.Places.{PlacesDiffer}
 use Rattle.kif_tree.specs.Terms.{Bytes, variables, distinct}
 use Rattle.kif_tree.specs.Subst.{lookup}
 use Rattle.kif_tree.proofs.SubstLaws.{Agree, agree_back}
@@ -21,12 +22,15 @@ use Rattle.kif_reader.proofs.OneFaultLaws.{spells_no_fault, fault_unique}
 use Rattle.sigma_app.specs.declared.files.Part.{Part}
 use Rattle.sigma_app.specs.Requests.{Asked, Meaning, asks, checks, gives_clauses, exports, drills, IsTaken, NamesNone, is_refused}
 use Rattle.sigma_app.proofs.RequestLaws.{means_one, nothing_meant}
-use Rattle.sigma_app.specs.Files.{Contents, byte_limit, IsWhole, AreWhole, IsReached, live_size, SpellParts}
+use Rattle.sigma_app.specs.Files.{Contents, byte_limit, file_limit, live_limit, IsWhole, AreWhole, IsReached, live_size, SpellParts}
 use Rattle.sigma_app.specs.Matching.{Fits, IsFirstMatch, value_pair, binding}
 use Rattle.sigma_app.specs.Proof.{values, lines_of}
 use Rattle.sigma_app.specs.Page.{answer_text, end_text}
 use Rattle.sigma_app.specs.Files.{load_names}
-use Rattle.sigma_app.specs.Tool.{Is, usage, not_built, absent_text, long_text, live_text, many_text, live_limit, file_limit, fault_in, syntax_text, has_option, found_page, Shows, SpellsQuery, OnForms, IsFaulty, OnTexts, OnParts, OnFiles, OnAsked, OnBuilt, HasMeaning, Tool}
+use Rattle.sigma_app.specs.CheckPage.{check_page}
+use Rattle.sigma_app.proofs.PlaceLaws.{whole_apart}
+use Rattle.sigma_app.proofs.DiagnosticLaws.{one_list}
+use Rattle.sigma_app.specs.Tool.{Is, usage, not_built, absent_text, long_text, live_text, many_text, fault_in, syntax_text, has_option, found_page, Shows, SpellsQuery, OnForms, ShowsDiagnostics, Following, IsFaulty, OnTexts, OnParts, OnFiles, OnPaths, OnAsked, OnBuilt, HasMeaning, Tool}
 use Rattle.sigma_app.specs.Laws.{SameOutcome}
 
 is_one : (wanted : ℕ) (shown : Bytes) (status other : ℕ) (text page : Bytes) → Is wanted shown status text → Is wanted shown other page → SameOutcome status other text page
@@ -159,29 +163,6 @@ spelled_at : (earlier : List Part) (part : Part) (later : List Part) (facts : Li
 spelled_at [] part later facts h = (h.0, h.3)
 spelled_at (first ∷ earlier) part later facts h = spelled_at earlier part later h.1 h.4
 
-texts_one : (asked : Asked) (parts : List Part) (status other : ℕ) (text page : Bytes) → OnTexts asked parts status text → OnTexts asked parts other page → SameOutcome status other text page
-texts_one asked parts status other text page (inl a) (inl b) =
-    let same =
-    stop_one a.earlier b.earlier a.part b.part a.later b.later
-    (record { forms = a.forms; spelled = a.spelled; status = status; text = text; faulty = a.faulty })
-    (record { forms = b.forms; spelled = b.spelled; status = other; text = page; faulty = b.faulty }) (sym a.stands ∙ b.stands) in
-    faulty_one b.part status other text page (subst (λ (p : Part). IsFaulty p status text) same a.faulty) b.faulty
-texts_one asked parts status other text page (inl a) (inr b) =
-    let mine = spelled_at a.earlier a.part a.later b.facts (subst (λ (ps : List Part). SpellParts ps b.facts) a.stands b.spelled) in absurd (faulty_spelled a.part status text mine.0 a.faulty mine.1)
-texts_one asked parts status other text page (inr a) (inl b) =
-    let mine = spelled_at b.earlier b.part b.later a.facts (subst (λ (ps : List Part). SpellParts ps a.facts) b.stands a.spelled) in absurd (faulty_spelled b.part other page mine.0 b.faulty mine.1)
-texts_one asked parts status other text page (inr a) (inr b) =
-    forms_one asked parts b.facts status other text page
-    (subst (λ (fs : List Located). OnForms asked parts fs status text) (parts_one parts a.facts b.facts a.spelled b.spelled) a.on_forms) b.on_forms
-
-size_one : (asked : Asked) (parts : List Part) (status other : ℕ) (text page : Bytes) → OnParts asked parts status text → OnParts asked parts other page → SameOutcome status other text page
-size_one asked parts status other text page a b = by_size (nat_le (live_size parts) live_limit) a b
-  where
-    by_size : (fits : Bool) → MatchBool fits (OnTexts asked parts status text) (Is 6 (live_text (live_size parts)) status text)
-        → MatchBool fits (OnTexts asked parts other page) (Is 6 (live_text (live_size parts)) other page) → SameOutcome status other text page
-    by_size true x y = texts_one asked parts status other text page x y
-    by_size false x y = is_one 6 (live_text (live_size parts)) status other text page x y
-
 -- ---- the files
 
 some_same : (a b : Bytes) → Some a ≡ Some b → a ≡ b
@@ -248,49 +229,89 @@ named_one : (wanted : ℕ) (shown : Bytes → Bytes) (path named : Bytes) (statu
     → SameOutcome status other text page
 named_one wanted shown path named status other text page e a b = (a.done ∙ sym b.done, a.page_is ∙ ap shown e ∙ sym b.page_is)
 
-files_one : (asked : Asked) (contents : Contents) (status other : ℕ) (text page : Bytes) → OnFiles asked contents status text → OnFiles asked contents other page → SameOutcome status other text page
-files_one asked contents status other text page (inl a) (inl b) =
-    named_one 3 absent_text a.path b.path status other text page
-    (stopped_one contents asked.paths a.path b.path a.reached b.reached (absent_missed contents a.path a.absent) (absent_missed contents b.path b.absent)) a.is b.is
-files_one asked contents status other text page (inl a) (inr (inl b)) =
-    let same = stopped_one contents asked.paths a.path b.path a.reached b.reached (absent_missed contents a.path a.absent) (long_missed contents b.path b.body b.held b.long) in
-    let no_way : None ≡ Some b.body = sym a.absent ∙ ap (body_of contents) same ∙ b.held in absurd (cc)
-files_one asked contents status other text page (inl a) (inr (inr b)) = absurd (missed_whole contents asked.paths a.path b.parts a.reached (absent_missed contents a.path a.absent) b.whole)
-files_one asked contents status other text page (inr (inl a)) (inl b) =
-    let same = stopped_one contents asked.paths b.path a.path b.reached a.reached (absent_missed contents b.path b.absent) (long_missed contents a.path a.body a.held a.long) in
-    let no_way : None ≡ Some a.body = sym b.absent ∙ ap (body_of contents) same ∙ a.held in absurd (cc)
-files_one asked contents status other text page (inr (inl a)) (inr (inl b)) =
-    named_one 6 long_text a.path b.path status other text page
-    (stopped_one contents asked.paths a.path b.path a.reached b.reached (long_missed contents a.path a.body a.held a.long) (long_missed contents b.path b.body b.held b.long)) a.is b.is
-files_one asked contents status other text page (inr (inl a)) (inr (inr b)) = absurd (missed_whole contents asked.paths a.path b.parts a.reached (long_missed contents a.path a.body a.held a.long) b.whole)
-files_one asked contents status other text page (inr (inr a)) (inl b) = absurd (missed_whole contents asked.paths b.path a.parts b.reached (absent_missed contents b.path b.absent) a.whole)
-files_one asked contents status other text page (inr (inr a)) (inr (inl b)) = absurd (missed_whole contents asked.paths b.path a.parts b.reached (long_missed contents b.path b.body b.held b.long) a.whole)
-files_one asked contents status other text page (inr (inr a)) (inr (inr b)) =
-    size_one asked b.parts status other text page
-    (subst (λ (ps : List Part). OnParts asked ps status text) (whole_one contents 1 asked.paths a.parts b.parts a.whole b.whole) a.on_parts) b.on_parts
+-- ---- the forms, the texts and the files of a command
+
+module _ (Next : Following) (status other : ℕ) (text page : Bytes) (one : (parts : List Part) (forms : List Located) → PlacesDiffer forms → Next parts forms status text → Next parts forms other page → SameOutcome status other text page) where
+  texts_one : (parts : List Part) → ((forms : List Located) → SpellParts parts forms → PlacesDiffer forms) → OnTexts Next parts status text → OnTexts Next parts other page
+      → SameOutcome status other text page
+  texts_one parts apart (inl a) (inl b) =
+      let same =
+      stop_one a.earlier b.earlier a.part b.part a.later b.later
+      (record { forms = a.forms; spelled = a.spelled; status = status; text = text; faulty = a.faulty })
+      (record { forms = b.forms; spelled = b.spelled; status = other; text = page; faulty = b.faulty }) (sym a.stands ∙ b.stands) in
+      faulty_one b.part status other text page (subst (λ (p : Part). IsFaulty p status text) same a.faulty) b.faulty
+  texts_one parts apart (inl a) (inr b) =
+      let mine = spelled_at a.earlier a.part a.later b.forms (subst (λ (ps : List Part). SpellParts ps b.forms) a.stands b.spelled) in absurd (faulty_spelled a.part status text mine.0 a.faulty mine.1)
+  texts_one parts apart (inr a) (inl b) =
+      let mine = spelled_at b.earlier b.part b.later a.forms (subst (λ (ps : List Part). SpellParts ps a.forms) b.stands a.spelled) in absurd (faulty_spelled b.part other page mine.0 b.faulty mine.1)
+  texts_one parts apart (inr a) (inr b) =
+      one parts b.forms (apart b.forms b.spelled)
+      (subst (λ (forms : List Located). Next parts forms status text) (parts_one parts a.forms b.forms a.spelled b.spelled) a.follows) b.follows
+
+  size_one : (parts : List Part) → ((forms : List Located) → SpellParts parts forms → PlacesDiffer forms) → OnParts Next parts status text → OnParts Next parts other page
+      → SameOutcome status other text page
+  size_one parts apart a b = by_size (nat_le (live_size parts) live_limit) a b
+    where
+      by_size : (fits : Bool) → MatchBool fits (OnTexts Next parts status text) (Is 6 (live_text (live_size parts)) status text)
+          → MatchBool fits (OnTexts Next parts other page) (Is 6 (live_text (live_size parts)) other page) → SameOutcome status other text page
+      by_size true x y = texts_one parts apart x y
+      by_size false x y = is_one 6 (live_text (live_size parts)) status other text page x y
+
+  files_one : (paths : List Bytes) (contents : Contents) → OnFiles Next paths contents status text → OnFiles Next paths contents other page → SameOutcome status other text page
+  files_one paths contents (inl a) (inl b) =
+      named_one 3 absent_text a.path b.path status other text page
+      (stopped_one contents paths a.path b.path a.reached b.reached (absent_missed contents a.path a.absent) (absent_missed contents b.path b.absent)) a.is b.is
+  files_one paths contents (inl a) (inr (inl b)) =
+      let same = stopped_one contents paths a.path b.path a.reached b.reached (absent_missed contents a.path a.absent) (long_missed contents b.path b.body b.held b.long) in
+      let no_way : None ≡ Some b.body = sym a.absent ∙ ap (body_of contents) same ∙ b.held in absurd (cc)
+  files_one paths contents (inl a) (inr (inr b)) = absurd (missed_whole contents paths a.path b.parts a.reached (absent_missed contents a.path a.absent) b.whole)
+  files_one paths contents (inr (inl a)) (inl b) =
+      let same = stopped_one contents paths b.path a.path b.reached a.reached (absent_missed contents b.path b.absent) (long_missed contents a.path a.body a.held a.long) in
+      let no_way : None ≡ Some a.body = sym b.absent ∙ ap (body_of contents) same ∙ a.held in absurd (cc)
+  files_one paths contents (inr (inl a)) (inr (inl b)) =
+      named_one 6 long_text a.path b.path status other text page
+      (stopped_one contents paths a.path b.path a.reached b.reached (long_missed contents a.path a.body a.held a.long) (long_missed contents b.path b.body b.held b.long)) a.is b.is
+  files_one paths contents (inr (inl a)) (inr (inr b)) = absurd (missed_whole contents paths a.path b.parts a.reached (long_missed contents a.path a.body a.held a.long) b.whole)
+  files_one paths contents (inr (inr a)) (inl b) = absurd (missed_whole contents paths b.path a.parts b.reached (absent_missed contents b.path b.absent) a.whole)
+  files_one paths contents (inr (inr a)) (inr (inl b)) = absurd (missed_whole contents paths b.path a.parts b.reached (long_missed contents b.path b.body b.held b.long) a.whole)
+  files_one paths contents (inr (inr a)) (inr (inr b)) =
+      size_one b.parts (λ forms spelled. whole_apart contents paths b.parts forms b.whole spelled)
+      (subst (λ (ps : List Part). OnParts Next ps status text) (whole_one contents 1 paths a.parts b.parts a.whole b.whole) a.on_parts) b.on_parts
+
+  paths_one : (paths : List Bytes) (contents : Contents) → OnPaths Next paths contents status text → OnPaths Next paths contents other page → SameOutcome status other text page
+  paths_one paths contents a b = by_count (nat_le (length paths) file_limit) a b
+    where
+      by_count : (few : Bool) → MatchBool few (OnFiles Next paths contents status text) (Is 6 (many_text (length paths)) status text)
+          → MatchBool few (OnFiles Next paths contents other page) (Is 6 (many_text (length paths)) other page) → SameOutcome status other text page
+      by_count true x y = files_one paths contents x y
+      by_count false x y = is_one 6 (many_text (length paths)) status other text page x y
 
 -- ---- the words
 
 asked_one : (asked : Asked) (contents : Contents) (status other : ℕ) (text page : Bytes) → OnAsked asked contents status text → OnAsked asked contents other page → SameOutcome status other text page
 asked_one asked contents status other text page a b = by_option (has_option asked) a b
   where
-    by_count : (few : Bool) → MatchBool few (OnFiles asked contents status text) (Is 6 (many_text (length asked.paths)) status text)
-        → MatchBool few (OnFiles asked contents other page) (Is 6 (many_text (length asked.paths)) other page) → SameOutcome status other text page
-    by_count true x y = files_one asked contents status other text page x y
-    by_count false x y = is_one 6 _ status other text page x y
-
     by_option : (option : Bool)
-        → MatchBool option (Is 10 not_built status text) (MatchBool (nat_le (length asked.paths) file_limit) (OnFiles asked contents status text) (Is 6 (many_text (length asked.paths)) status text))
-        → MatchBool option (Is 10 not_built other page) (MatchBool (nat_le (length asked.paths) file_limit) (OnFiles asked contents other page) (Is 6 (many_text (length asked.paths)) other page))
+        → MatchBool option (Is 10 not_built status text) (OnPaths (OnForms asked) asked.paths contents status text)
+        → MatchBool option (Is 10 not_built other page) (OnPaths (OnForms asked) asked.paths contents other page)
         → SameOutcome status other text page
     by_option true x y = is_one 10 not_built status other text page x y
-    by_option false x y = by_count (nat_le (length asked.paths) file_limit) x y
+    by_option false x y =
+        paths_one (OnForms asked) status other text page (λ parts forms apart c d. forms_one asked parts forms status other text page c d) asked.paths contents x y
+
+diagnostics_one : (parts : List Part) (forms : List Located) (status other : ℕ) (text page : Bytes) → PlacesDiffer forms
+    → ShowsDiagnostics parts forms status text → ShowsDiagnostics parts forms other page → SameOutcome status other text page
+diagnostics_one parts forms status other text page apart a b = (
+  a.is.done ∙ sym b.is.done,
+  a.is.page_is ∙ ap (check_page (load_names parts)) (one_list forms a.list b.list apart a.are b.are) ∙ sym b.is.page_is,
+)
 
 built_one : (meaning : Meaning) (contents : Contents) (status other : ℕ) (text page : Bytes) → OnBuilt meaning contents status text → OnBuilt meaning contents other page → SameOutcome status other text page
 built_one (asks asked) contents status other text page a b = asked_one asked contents status other text page a b
-built_one (checks paths) contents status other text page a b = is_one 10 not_built status other text page a b
-built_one (gives_clauses paths) contents status other text page a b = is_one 10 not_built status other text page a b
-built_one (exports paths) contents status other text page a b = is_one 10 not_built status other text page a b
+built_one (checks files) contents status other text page a b =
+    paths_one ShowsDiagnostics status other text page (λ parts forms apart c d. diagnostics_one parts forms status other text page apart c d) files contents a b
+built_one (gives_clauses files) contents status other text page a b = is_one 10 not_built status other text page a b
+built_one (exports files) contents status other text page a b = is_one 10 not_built status other text page a b
 built_one (drills size) contents status other text page a b = is_one 10 not_built status other text page a b
 
 abbrev Judged : Bool → Meaning → Contents → ℕ → Bytes → Type 0

@@ -7,9 +7,9 @@ use Rattle.kif_tree.specs.declared.place.Located.{Located}
 use Rattle.kif_tree.specs.Terms.{Bytes}
 use Rattle.sig_io.specs.Causes.{Rose}
 use Rattle.sigma_app.specs.declared.files.Part.{Part}
-use Rattle.sigma_app.specs.Requests.{Asked, Meaning, asks, checks, gives_clauses, exports, drills, is_refused}
-use Rattle.sigma_app.specs.Files.{Contents, live_size}
-use Rattle.sigma_app.specs.Tool.{Is, usage, not_built, live_text, many_text, live_limit, file_limit, has_option, reads_files, Shows, OnForms, OnTexts, OnParts, OnFiles, OnAsked, OnBuilt, Tool, GivesTool}
+use Rattle.sigma_app.specs.Requests.{Asked, Meaning, asks, checks, gives_clauses, exports, drills, paths, is_refused}
+use Rattle.sigma_app.specs.Files.{Contents, file_limit, live_limit, live_size}
+use Rattle.sigma_app.specs.Tool.{Is, usage, not_built, live_text, many_text, has_option, is_built, reads_files, Shows, OnForms, ShowsDiagnostics, Following, OnTexts, OnParts, OnFiles, OnPaths, OnAsked, OnBuilt, Tool, GivesTool}
 use Rattle.sigma_app.proofs.EvidenceLaws.{shows_proof}
 use Rattle.sigma_app.specs.Run.{IsTrouble, IsCutShort, MayBeRefused, MustBeRefused, Appends, ReportsFault, AppendsPart, IsOwnReply, Obtains, PrintsPart, Printed}
 
@@ -52,39 +52,42 @@ forms_own : (asked : Asked) (parts : List Part) (facts : List Located) (status :
 forms_own asked parts facts status text (inl replies) = shows_own parts facts replies.query status text replies.shown
 forms_own asked parts facts status text (inr declines) = fine status 10 declines.is.done refl
 
-texts_own : (asked : Asked) (parts : List Part) (status : ℕ) (text : Bytes) → OnTexts asked parts status text → IsOfFiles status
-texts_own asked parts status text (inl fault) = fine status 5 fault.faulty.is.done refl
-texts_own asked parts status text (inr spelled) = forms_own asked parts spelled.facts status text spelled.on_forms
+module _ (Next : Following) (status : ℕ) (text : Bytes) (own : (parts : List Part) (forms : List Located) → Next parts forms status text → IsOfFiles status) where
+  texts_own : (parts : List Part) → OnTexts Next parts status text → IsOfFiles status
+  texts_own parts (inl fault) = fine status 5 fault.faulty.is.done refl
+  texts_own parts (inr spelled) = own parts spelled.forms spelled.follows
 
-parts_own : (asked : Asked) (parts : List Part) (status : ℕ) (text : Bytes) → OnParts asked parts status text → IsOfFiles status
-parts_own asked parts status text h = by_size (nat_le (live_size parts) live_limit) h
-  where
-    by_size : (fits : Bool) → MatchBool fits (OnTexts asked parts status text) (Is 6 (live_text (live_size parts)) status text) → IsOfFiles status
-    by_size true x = texts_own asked parts status text x
-    by_size false x = fine status 6 x.done refl
+  parts_own : (parts : List Part) → OnParts Next parts status text → IsOfFiles status
+  parts_own parts h = by_size (nat_le (live_size parts) live_limit) h
+    where
+      by_size : (fits : Bool) → MatchBool fits (OnTexts Next parts status text) (Is 6 (live_text (live_size parts)) status text) → IsOfFiles status
+      by_size true x = texts_own parts x
+      by_size false x = fine status 6 x.done refl
 
-files_own : (asked : Asked) (contents : Contents) (status : ℕ) (text : Bytes) → OnFiles asked contents status text → IsOfFiles status
-files_own asked contents status text (inl absent) = fine status 3 absent.is.done refl
-files_own asked contents status text (inr (inl long)) = fine status 6 long.is.done refl
-files_own asked contents status text (inr (inr found)) = parts_own asked found.parts status text found.on_parts
+  files_own : (paths : List Bytes) (contents : Contents) → OnFiles Next paths contents status text → IsOfFiles status
+  files_own paths contents (inl absent) = fine status 3 absent.is.done refl
+  files_own paths contents (inr (inl long)) = fine status 6 long.is.done refl
+  files_own paths contents (inr (inr found)) = parts_own found.parts found.on_parts
+
+  paths_own : (paths : List Bytes) (contents : Contents) → OnPaths Next paths contents status text → IsOfFiles status
+  paths_own paths contents h = by_count (nat_le (length paths) file_limit) h
+    where
+      by_count : (few : Bool) → MatchBool few (OnFiles Next paths contents status text) (Is 6 (many_text (length paths)) status text) → IsOfFiles status
+      by_count true x = files_own paths contents x
+      by_count false x = fine status 6 x.done refl
 
 asked_own : (asked : Asked) (contents : Contents) (status : ℕ) (text : Bytes) → OnAsked asked contents status text → IsOfFiles status
-asked_own asked contents status text h = by_tests (has_option asked) (nat_le (length asked.paths) file_limit) h
+asked_own asked contents status text h = by_option (has_option asked) h
   where
-    by_count : (few : Bool) → MatchBool few (OnFiles asked contents status text) (Is 6 (many_text (length asked.paths)) status text) → IsOfFiles status
-    by_count true x = files_own asked contents status text x
-    by_count false x = fine status 6 x.done refl
-
-    by_tests : (option few : Bool)
-        → MatchBool option (Is 10 not_built status text) (MatchBool few (OnFiles asked contents status text) (Is 6 (many_text (length asked.paths)) status text)) → IsOfFiles status
-    by_tests true few x = fine status 10 x.done refl
-    by_tests false few x = by_count few x
+    by_option : (option : Bool) → MatchBool option (Is 10 not_built status text) (OnPaths (OnForms asked) asked.paths contents status text) → IsOfFiles status
+    by_option true x = fine status 10 x.done refl
+    by_option false x = paths_own (OnForms asked) status text (λ parts forms follows. forms_own asked parts forms status text follows) asked.paths contents x
 
 built_own : (meaning : Meaning) (contents : Contents) (status : ℕ) (text : Bytes) → OnBuilt meaning contents status text → IsOfFiles status
 built_own (asks asked) contents status text h = asked_own asked contents status text h
-built_own (checks paths) contents status text h = fine status 10 h.done refl
-built_own (gives_clauses paths) contents status text h = fine status 10 h.done refl
-built_own (exports paths) contents status text h = fine status 10 h.done refl
+built_own (checks files) contents status text h = paths_own ShowsDiagnostics status text (λ parts forms shown. fine status 0 shown.is.done refl) files contents h
+built_own (gives_clauses files) contents status text h = fine status 10 h.done refl
+built_own (exports files) contents status text h = fine status 10 h.done refl
 built_own (drills size) contents status text h = fine status 10 h.done refl
 
 -- what the status says of the words
@@ -104,10 +107,10 @@ judged words contents status text (inl has) = by_test (is_refused has.meaning) r
 judged words contents status text (inr none) = record { is_own = two_own status none.is.done; refuses = λ two. inl none.not_taken; refused = λ must. none.is.done }
 
 -- words whose files are read are not refused
-read_good : (asked : Asked) → reads_files (asks asked) ≡ true → is_refused (asks asked) ≡ false
-read_good asked h = by_test (is_refused (asks asked)) h
+read_good : (meaning : Meaning) → reads_files meaning ≡ true → is_refused meaning ≡ false
+read_good meaning h = by_test (is_refused meaning) h
   where
-    by_test : (refused : Bool) → (not refused && (not (has_option asked) && nat_le (length asked.paths) file_limit)) ≡ true → refused ≡ false
+    by_test : (refused : Bool) → (not refused && (is_built meaning && nat_le (length (paths meaning)) file_limit)) ≡ true → refused ≡ false
     by_test true e = absurd (false≢true e)
     by_test false e = refl
 
@@ -128,7 +131,8 @@ module _ (words : List Bytes) (told : Option Contents) (before now status : ℕ)
   answered (inl reply) (inl all) = inr (record {
     text = text;
     gives = given_at reply.gives (sym all.is);
-    proved = λ zero_is. shows_proof words reply.gives.contents result text zero_is (subst (λ (s : ℕ). Tool words reply.gives.contents s text) (sym all.is) reply.gives.tool);
+    proved = λ asked means zero_is.
+        shows_proof words reply.gives.contents result text zero_is asked means (subst (λ (s : ℕ). Tool words reply.gives.contents s text) (sym all.is) reply.gives.tool);
     appended = all.appended;
   })
   answered (inr reply) (inl all) = inl (inl (all.is ∙ reply.four))
@@ -145,7 +149,7 @@ module _ (words : List Bytes) (told : Option Contents) (before now status : ℕ)
   part_of : Obtains words told before now status text → PrintsPart text old new sink_before sink_now result → AppendsPart words told before now old new
   part_of (inl reply) part = (
     text,
-    record { status = status; either = inl (record { gives = reply.gives; proved = λ zero_is. shows_proof words reply.gives.contents status text zero_is reply.gives.tool }, reply.quiet) },
+    record { status = status; either = inl (record { gives = reply.gives; proved = λ asked means zero_is. shows_proof words reply.gives.contents status text zero_is asked means reply.gives.tool }, reply.quiet) },
     part.prefix,
   )
   part_of (inr reply) part = (text, record { status = status; either = inr ((reply.four, reply.names), reply.rose) }, part.prefix)
@@ -174,7 +178,7 @@ module _ (words : List Bytes) (told : Option Contents) (before now status : ℕ)
   pub refused : Obtains words told before now status text → Printed status text old new sink_before sink_now result → MustBeRefused words → (result ≡ 2) ⊎ IsCutShort result
   refused (inl reply) (inl all) must = inl (all.is ∙ (judge reply).refused must)
   refused (inr reply) (inl all) must =
-      let fault = reply.names.fault in absurd (false≢true (sym (read_good fault.asked fault.reads) ∙ must (asks fault.asked) fault.means))
+      let fault = reply.names.fault in absurd (false≢true (sym (read_good fault.meaning fault.reads) ∙ must fault.meaning fault.means))
   refused reply (inr part) must = inr (trouble part.cause)
 
   pub file_fault : Obtains words told before now status text → Printed status text old new sink_before sink_now result → result ≡ 4 → ReportsFault words told before now old new

@@ -21,15 +21,18 @@ use Rattle.kif_reader.proofs.OneFaultLaws.{spells_no_fault}
 use Rattle.kif_reader.proofs.ReadingIsOneLaws.{spells_unique}
 use Rattle.kif_reader.proofs.SomeReadingLaws.{some_reading}
 use Rattle.sigma_app.specs.declared.files.Part.{Part}
-use Rattle.sigma_app.specs.Files.{Contents, byte_limit, AreWhole, live_size, SpellParts}
-use Rattle.sigma_app.specs.Laws.{Outcome}
+use Rattle.diagnose.specs.declared.diagnostic.Diagnostic.{Diagnostic}
+use Rattle.diagnose.specs.Diagnostics.{AreDiagnostics}
+use Rattle.sigma_app.specs.CheckPage.{check_page}
+use Rattle.sigma_app.specs.Files.{Contents, byte_limit, file_limit, live_limit, AreWhole, live_size, load_names, SpellParts, HaveForms}
+use Rattle.sigma_app.specs.Laws.{Outcome, HaveDiagnostics}
 use Rattle.sigma_app.specs.Matching.{IsFlat, Fits, HasNoMatch, HasNoMatchIn, IsFirstMatch, matched}
 use Rattle.sigma_app.specs.Plain.{is_plain_word, is_plain_head, IsPlainArgument, IsPlainAtom}
-use Rattle.sigma_app.specs.Requests.{Asked, Meaning, asks, checks, gives_clauses, exports, drills, meaning, is_refused}
-use Rattle.sigma_app.specs.Tool.{Is, usage, not_built, absent_text, long_text, live_text, many_text, live_limit, file_limit, fault_in, syntax_text, has_option, found_page, none_page, Shows, IsPlainFact, IsPlain, OnForms, HasFault, OnTexts, OnParts, OnFiles, OnBuilt, Tool}
+use Rattle.sigma_app.specs.Requests.{Asked, Meaning, asks, checks, gives_clauses, exports, drills, meaning, Means, is_refused}
+use Rattle.sigma_app.specs.Tool.{Is, usage, not_built, absent_text, long_text, live_text, many_text, fault_in, syntax_text, has_option, found_page, none_page, Shows, IsPlainFact, IsPlain, OnForms, ShowsDiagnostics, Following, HasFault, OnTexts, OnParts, OnFiles, OnPaths, OnBuilt, Tool}
 use Rattle.sigma_app.proofs.MatchLaws.{matched_fits, unmatched, unlisted}
 use Rattle.sigma_app.proofs.PlainLaws.{flat_atom}
-use Rattle.sigma_app.proofs.RequestLaws.{taken_meaning}
+use Rattle.sigma_app.proofs.RequestLaws.{means_one, taken_meaning}
 
 it_is : (wanted : ℕ) (page : Bytes) → Is wanted page wanted page
 it_is wanted page = record { done = refl; page_is = refl }
@@ -309,19 +312,6 @@ spelled_or_not : (parts : List Part) → SpelledOrNot parts
 spelled_or_not [] = inl ([], refl)
 spelled_or_not (part ∷ parts) = spelled_by part parts (some_reading part.number part.text) (spelled_or_not parts)
 
-texts_by : (asked : Asked) (parts : List Part) → SpelledOrNot parts → Outcome (OnTexts asked parts)
-texts_by asked parts (inl (facts, spelled)) =
-    let on_forms = forms_some asked parts facts in
-    (on_forms.0, on_forms.1, inr (record { facts = facts; spelled = spelled; on_forms = on_forms.2 }))
-texts_by asked parts (inr (status, text, fault)) = (status, text, inl fault)
-
-size_by : (asked : Asked) (parts : List Part) (fits : Bool) → Outcome (λ status text. MatchBool fits (OnTexts asked parts status text) (Is 6 (live_text (live_size parts)) status text))
-size_by asked parts true = texts_by asked parts (spelled_or_not parts)
-size_by asked parts false = (6, live_text (live_size parts), it_is 6 (live_text (live_size parts)))
-
-parts_some : (asked : Asked) (parts : List Part) → Outcome (OnParts asked parts)
-parts_some asked parts = size_by asked parts (nat_le (live_size parts) live_limit)
-
 -- ---- the files
 
 -- why a file isn't whole
@@ -371,8 +361,25 @@ whole_or_not : (contents : Contents) (at : ℕ) (paths : List Bytes) → WholeOr
 whole_or_not contents at [] = inl ([], refl)
 whole_or_not contents at (path ∷ paths) = whole_by contents at path paths (body_of contents path) refl (whole_or_not contents (at + 1) paths)
 
-module _ (asked : Asked) (contents : Contents) where
-  missed_by : (missed : Missed contents 1 asked.paths) → (body_of contents missed.path ≡ None) ⊎ IsLong contents missed.path → Outcome (OnFiles asked contents)
+-- ---- the files and their forms, and what follows on them
+
+module _ (Next : Following) (contents : Contents) (paths : List Bytes) (some : (parts : List Part) (forms : List Located) → HaveForms contents paths parts forms → Outcome (Next parts forms)) where
+  texts_by : (parts : List Part) → ((forms : List Located) → SpellParts parts forms → HaveForms contents paths parts forms) → SpelledOrNot parts → Outcome (OnTexts Next parts)
+  texts_by parts have (inl (forms, spelled)) =
+      let next = some parts forms (have forms spelled) in
+      (next.0, next.1, inr (record { forms = forms; spelled = spelled; follows = next.2 }))
+  texts_by parts have (inr (status, text, fault)) = (status, text, inl fault)
+
+  size_by : (parts : List Part) (fit : Bool) → (fit ≡ true → (forms : List Located) → SpellParts parts forms → HaveForms contents paths parts forms)
+      → Outcome (λ status text. MatchBool fit (OnTexts Next parts status text) (Is 6 (live_text (live_size parts)) status text))
+  size_by parts true have = texts_by parts (have refl) (spelled_or_not parts)
+  size_by parts false have = (6, live_text (live_size parts), it_is 6 (live_text (live_size parts)))
+
+  parts_some : nat_le (length paths) file_limit ≡ true → (parts : List Part) → AreWhole contents 1 paths parts → Outcome (OnParts Next parts)
+  parts_some few parts whole =
+      size_by parts (nat_le (live_size parts) live_limit) (λ fit forms spelled. record { few = few; whole = whole; fit = fit; spelled = spelled })
+
+  missed_by : (missed : Missed contents 1 paths) → (body_of contents missed.path ≡ None) ⊎ IsLong contents missed.path → Outcome (OnFiles Next paths contents)
   missed_by missed (inl absent) = (
     3,
     absent_text missed.path,
@@ -396,40 +403,65 @@ module _ (asked : Asked) (contents : Contents) where
     })),
   )
 
-  files_by : WholeOrNot contents 1 asked.paths → Outcome (OnFiles asked contents)
-  files_by (inl (parts, whole)) =
-      let on_parts = parts_some asked parts in
+  files_by : nat_le (length paths) file_limit ≡ true → WholeOrNot contents 1 paths → Outcome (OnFiles Next paths contents)
+  files_by few (inl (parts, whole)) =
+      let on_parts = parts_some few parts whole in
       (on_parts.0, on_parts.1, inr (inr (record { parts = parts; whole = whole; on_parts = on_parts.2 })))
-  files_by (inr missed) = missed_by missed missed.cause
+  files_by few (inr missed) = missed_by missed missed.cause
 
-  -- ---- the words
+  count_by : (few : Bool) → nat_le (length paths) file_limit ≡ few
+      → Outcome (λ status text. MatchBool few (OnFiles Next paths contents status text) (Is 6 (many_text (length paths)) status text))
+  count_by true e = files_by e (whole_or_not contents 1 paths)
+  count_by false e = (6, many_text (length paths), it_is 6 (many_text (length paths)))
 
-  count_by : (few : Bool) → Outcome (λ status text. MatchBool few (OnFiles asked contents status text) (Is 6 (many_text (length asked.paths)) status text))
-  count_by true = files_by (whole_or_not contents 1 asked.paths)
-  count_by false = (6, many_text (length asked.paths), it_is 6 (many_text (length asked.paths)))
+  paths_some : Outcome (OnPaths Next paths contents)
+  paths_some = count_by (nat_le (length paths) file_limit) refl
 
-  option_by : (option : Bool)
-      → Outcome (λ status text. MatchBool option (Is 10 not_built status text) (MatchBool (nat_le (length asked.paths) file_limit) (OnFiles asked contents status text) (Is 6 (many_text (length asked.paths)) status text)))
-  option_by true = (10, not_built, it_is 10 not_built)
-  option_by false = count_by (nat_le (length asked.paths) file_limit)
+-- ---- the words
 
-built_some : (value : Meaning) (contents : Contents) → Outcome (OnBuilt value contents)
-built_some (asks asked) contents = option_by asked contents (has_option asked)
-built_some (checks paths) contents = (10, not_built, it_is 10 not_built)
-built_some (gives_clauses paths) contents = (10, not_built, it_is 10 not_built)
-built_some (exports paths) contents = (10, not_built, it_is 10 not_built)
-built_some (drills size) contents = (10, not_built, it_is 10 not_built)
+option_by : (asked : Asked) (contents : Contents) (option : Bool)
+    → Outcome (λ status text. MatchBool option (Is 10 not_built status text) (OnPaths (OnForms asked) asked.paths contents status text))
+option_by asked contents true = (10, not_built, it_is 10 not_built)
+option_by asked contents false = paths_some (OnForms asked) contents asked.paths (λ parts forms have. forms_some asked parts forms)
 
-refused_by : (value : Meaning) (contents : Contents) (refused : Bool) → Outcome (λ status text. MatchBool refused (Is 2 usage status text) (OnBuilt value contents status text))
-refused_by value contents true = (2, usage, it_is 2 usage)
-refused_by value contents false = built_some value contents
+diagnostics_some : (parts : List Part) (forms : List Located) → (list : List Diagnostic) × AreDiagnostics forms list → Outcome (ShowsDiagnostics parts forms)
+diagnostics_some parts forms (list, are) =
+    let page = check_page (load_names parts) list in
+    (0, page, record { list = list; are = are; is = it_is 0 page })
 
-meaning_by : (words : List Bytes) (contents : Contents) (o : Option Meaning) → meaning words ≡ o → Outcome (Tool words contents)
-meaning_by words contents None none =
+-- where the value is a check, the forms of its files have a list of diagnostics
+abbrev Listed : Meaning → Contents → Type 0
+Listed value contents = (files : List Bytes) → value ≡ checks files → HaveDiagnostics contents files
+
+built_some : (value : Meaning) (contents : Contents) → Listed value contents → Outcome (OnBuilt value contents)
+built_some (asks asked) contents listed = option_by asked contents (has_option asked)
+built_some (checks files) contents listed = paths_some ShowsDiagnostics contents files (λ parts forms have. diagnostics_some parts forms (listed files refl parts forms have))
+built_some (gives_clauses files) contents listed = (10, not_built, it_is 10 not_built)
+built_some (exports files) contents listed = (10, not_built, it_is 10 not_built)
+built_some (drills size) contents listed = (10, not_built, it_is 10 not_built)
+
+refused_by : (value : Meaning) (contents : Contents) → Listed value contents → (refused : Bool)
+    → Outcome (λ status text. MatchBool refused (Is 2 usage status text) (OnBuilt value contents status text))
+refused_by value contents listed true = (2, usage, it_is 2 usage)
+refused_by value contents listed false = built_some value contents listed
+
+meaning_by : (words : List Bytes) (contents : Contents) → ((files : List Bytes) → Means words (checks files) → HaveDiagnostics contents files) → (o : Option Meaning) → meaning words ≡ o
+    → Outcome (Tool words contents)
+meaning_by words contents listed None none =
     (2, usage, inr (record { not_taken = λ taken. (let some = taken_meaning words taken in let no_way : None ≡ Some some.0 = sym none ∙ some.1 in cc); is = it_is 2 usage }))
-meaning_by words contents (Some value) means =
-    let on_meaning = refused_by value contents (is_refused value) in
+meaning_by words contents listed (Some value) means =
+    let on_meaning = refused_by value contents (λ files e. listed files (means ∙ ap Some e)) (is_refused value) in
     (on_meaning.0, on_meaning.1, inl (record { meaning = value; means = means; on_meaning = on_meaning.2 }))
 
-pub some_outcome : (words : List Bytes) (contents : Contents) → Outcome (Tool words contents)
-some_outcome words contents = meaning_by words contents (meaning words) refl
+-- words that don't mean a check
+pub some_outcome : (words : List Bytes) (contents : Contents) → ((files : List Bytes) → Means words (checks files) → ⊥) → Outcome (Tool words contents)
+some_outcome words contents none = meaning_by words contents (λ files means. absurd (none files means)) (meaning words) refl
+
+same_files : (files others : List Bytes) → checks files ≡ checks others → files ≡ others
+same_files files others e = cc
+
+-- words that mean a check
+pub check_outcome : (words : List Bytes) (contents : Contents) (files : List Bytes) → Means words (checks files) → HaveDiagnostics contents files → Outcome (Tool words contents)
+check_outcome words contents files means have =
+    meaning_by words contents
+    (λ others other. subst (HaveDiagnostics contents) (same_files files others (means_one words (checks files) (checks others) means other)) have) (meaning words) refl

@@ -11,6 +11,7 @@ use Rattle.kif_tree.specs.declared.form.Form.{Form}
 use Rattle.kif_tree.specs.declared.place.Located.{Located}
 use Rattle.kif_tree.specs.declared.place.LoadName.{LoadName}
 use Rattle.kif_tree.specs.declared.subst.Pair.{Pair}
+use Rattle.kif_tree.specs.Places.{PlacesDiffer}
 use Rattle.kif_tree.specs.Terms.{Bytes, variables, distinct}
 use Rattle.sigma_app.specs.declared.page.ProofLine.{ProofLine}
 use Rattle.sigma_app.specs.Matching.{IsFirstMatch, binding, value_pair}
@@ -18,15 +19,18 @@ use Rattle.sigma_app.specs.Page.{answer_text, end_text}
 use Rattle.sigma_app.specs.Proof.{values, lines_of}
 use Rattle.sigma_app.specs.declared.files.Part.{Part}
 use Rattle.sigma_app.specs.declared.files.Fetching.TheVariants.{Stopped}
-use Rattle.sigma_app.specs.declared.requests.Ask.{Ask}
+use Rattle.sigma_app.specs.declared.gather.Gathered.{Gathered}
+use Rattle.sigma_app.specs.declared.gather.Gathering.{Gathering}
+use Rattle.sigma_app.specs.declared.gather.Gathering.TheVariants as gathering
 use Rattle.sigma_app.specs.declared.reply.Reply.{Reply}
 use Rattle.sigma_base.specs.declared.memory.NoMemory.{NoMemory}
-use Rattle.sigma_app.specs.Requests.{Asked, asked_value, texts, Meaning, asks, checks, gives_clauses, exports, drills, Means, IsTaken, is_refused}
+use Rattle.sigma_app.specs.Requests.{Asked, texts, Meaning, asks, checks, gives_clauses, exports, drills, paths, Means, IsTaken, is_refused}
 use Rattle.sigma_app.specs.Plain.{IsPlainAtom}
-use Rattle.sigma_app.specs.Files.{Contents, AreWhole, AreShort, live_size, load_names, SpellParts}
-use Rattle.sigma_app.specs.Tool.{Is, usage, not_built, live_text, many_text, live_limit, file_limit, has_option, reads_files, found_page, Shows, SpellsQuery, IsPlainFact, IsPlain, OnForms, OnTexts, OnParts, IsAbsent, IsTooLong, OnFiles, OnAsked, OnBuilt, HasMeaning}
-use Rattle.sigma_app.specs.Run.{Over, Fails, Fetches, OnAskFiles, OnAsk, OnGoodRequest, OnRequest, Obtains}
+use Rattle.sigma_app.specs.Files.{Contents, file_limit, live_limit, AreWhole, AreShort, live_size, load_names, SpellParts}
+use Rattle.sigma_app.specs.Tool.{Is, usage, not_built, live_text, many_text, has_option, is_built, reads_files, found_page, Shows, SpellsQuery, IsPlainFact, IsPlain, OnForms, ShowsDiagnostics, Following, Nothing, HasFault, OnTexts, OnParts, GathersParts, IsAbsent, IsTooLong, OnFiles, OnPaths, OnAsked, OnBuilt, HasMeaning}
+use Rattle.sigma_app.specs.Run.{Over, Fails, Fetches, OnFewFiles, OnNamedFiles, Gathers, OnAsk, OnGoodRequest, OnRequest, Obtains}
 use Rattle.sigma_app.proofs.FileLaws.{whole_short, whole_length}
+use Rattle.sigma_app.proofs.PlaceLaws.{whole_apart}
 
 abbrev pub term_of : Pair → Form
 term_of pair = pair.term
@@ -69,83 +73,190 @@ pub declines : (asked : Asked) (parts : List Part) (facts : List Located) → ((
 declines asked parts facts none (Ok reply) is = inr (record { not_plain = none; is = is })
 declines asked parts facts none (Err error) is = tt
 
--- ---- over the texts and the parts
+-- ---- over the parts
 
-pub read_whole : (asked : Asked) (parts : List Part) (facts : List Located) → SpellParts parts facts
-    → (r : Replied) → IfOk r (λ reply. OnForms asked parts facts reply.status reply.text) → IfOk r (λ reply. OnTexts asked parts reply.status reply.text)
-read_whole asked parts facts spelled (Ok reply) on_forms = inr (record { facts = facts; spelled = spelled; on_forms = on_forms })
-read_whole asked parts facts spelled (Err error) on_forms = tt
+at_most : (n limit : ℕ) → n ≤ limit → nat_le n limit ≡ true
+at_most n limit h = grind (arith, nat_tests)
 
-pub size_fits : (asked : Asked) (parts : List Part) → nat_le (live_size parts) live_limit ≡ true
-    → (r : Replied) → IfOk r (λ reply. OnTexts asked parts reply.status reply.text) → IfOk r (λ reply. OnParts asked parts reply.status reply.text)
-size_fits asked parts fits (Ok reply) on_texts = subst (λ (b : Bool). MatchBool b (OnTexts asked parts reply.status reply.text) (Is 6 (live_text (live_size parts)) reply.status reply.text)) (sym fits) on_texts
-size_fits asked parts fits (Err error) on_texts = tt
+passes : (n limit : ℕ) → limit < n → nat_le n limit ≡ false
+passes n limit h = grind (arith, nat_tests)
 
-pub size_passes : (asked : Asked) (parts : List Part) → nat_le (live_size parts) live_limit ≡ false
-    → (r : Replied) → IfOk r (λ reply. Is 6 (live_text (live_size parts)) reply.status reply.text) → IfOk r (λ reply. OnParts asked parts reply.status reply.text)
-size_passes asked parts passes (Ok reply) is = subst (λ (b : Bool). MatchBool b (OnTexts asked parts reply.status reply.text) (Is 6 (live_text (live_size parts)) reply.status reply.text)) (sym passes) is
-size_passes asked parts passes (Err error) is = tt
+pub parts_long : (parts : List Part) (size : ℕ) (reply : Reply) → size ≡ live_size parts → live_limit < size → Is 6 (live_text size) reply.status reply.text
+    → OnParts Nothing parts reply.status reply.text
+parts_long parts size reply e long is =
+    subst (λ (b : Bool). MatchBool b (OnTexts Nothing parts reply.status reply.text) (Is 6 (live_text (live_size parts)) reply.status reply.text))
+    (sym (passes (live_size parts) live_limit (omega (arith, e, long))))
+    (subst (λ (n : ℕ). Is 6 (live_text n) reply.status reply.text) e is)
+
+pub parts_faulty : (parts : List Part) (size : ℕ) (reply : Reply) → size ≡ live_size parts → size ≤ live_limit → HasFault parts reply.status reply.text → OnParts Nothing parts reply.status reply.text
+parts_faulty parts size reply e fits fault =
+    subst (λ (b : Bool). MatchBool b (OnTexts Nothing parts reply.status reply.text) (Is 6 (live_text (live_size parts)) reply.status reply.text))
+    (sym (at_most (live_size parts) live_limit (omega (arith, e, fits)))) (inl fault)
+
+pub parts_fit : (parts : List Part) (size : ℕ) → size ≡ live_size parts → size ≤ live_limit → nat_le (live_size parts) live_limit ≡ true
+parts_fit parts size e fits = at_most (live_size parts) live_limit (omega (arith, e, fits))
 
 -- ---- over the files
 
-pub files_found : (asked : Asked) (told : Option Contents) (before now : ℕ) (parts : List Part) → (now ≡ before) × Over told (λ contents. AreWhole contents 1 asked.paths parts)
-    → (r : Replied) → IfOk r (λ reply. OnParts asked parts reply.status reply.text) → IfOk r (λ reply. OnAskFiles asked told before now reply.status reply.text)
-files_found asked told before now parts (quiet, over) (Ok reply) on_parts =
-    inl (quiet, record { contents = over.contents; agrees = over.agrees; holds = inr (inr (record { parts = parts; whole = over.holds; on_parts = on_parts })) })
-files_found asked told before now parts found (Err error) on_parts = tt
+abbrev AllFound : List Bytes → Option Contents → ℕ → ℕ → List Part → Type 0
+AllFound paths told before now parts = (now ≡ before) × Over told (λ contents. AreWhole contents 1 paths parts)
 
-pub files_stopped : (asked : Asked) (told : Option Contents) (before now : ℕ) (reply : Reply) → Fetches asked.paths told before now (Stopped reply) → OnAskFiles asked told before now reply.status reply.text
-files_stopped asked told before now reply (inl (quiet, over)) = inl (quiet, record { contents = over.contents; agrees = over.agrees; holds = either over.holds })
+pub found_short : (paths : List Bytes) (told : Option Contents) (before now : ℕ) (parts : List Part) → AllFound paths told before now parts → AreShort parts
+found_short paths told before now parts (quiet, over) = whole_short over.contents 1 paths parts over.holds
+
+pub found_few : (files : List (Bor Bytes)) (told : Option Contents) (before now : ℕ) (parts : List Part) → AllFound (texts files) told before now parts → length files ≤ 64 → length parts ≤ 64
+found_few files told before now parts (quiet, over) few =
+    let count = whole_length over.contents 1 (texts files) parts over.holds in omega (arith, few, count, length-map files (λ (s : Bor Bytes). s.now))
+
+count_few : (files : List (Bor Bytes)) → length files ≤ 64 → nat_le (length (texts files)) file_limit ≡ true
+count_few files few = at_most (length (texts files)) file_limit (let count = length-map files (λ (s : Bor Bytes). s.now) in omega (arith, count, few))
+
+count_many : (files : List (Bor Bytes)) → 64 < length files → nat_le (length (texts files)) file_limit ≡ false
+count_many files many = passes (length (texts files)) file_limit (let count = length-map files (λ (s : Bor Bytes). s.now) in omega (arith, count, many))
+
+abbrev Counted : Bool → Following → List Bytes → Option Contents → ℕ → ℕ → ℕ → Bytes → Type 0
+Counted few Next paths told before now status text =
+    MatchBool few (OnFewFiles Next paths told before now status text) ((now ≡ before) × Is 6 (many_text (length paths)) status text)
+
+counted : (few : Bool) (Next : Following) (paths : List Bytes) (told : Option Contents) (before now status : ℕ) (text : Bytes) → nat_le (length paths) file_limit ≡ few
+    → Counted few Next paths told before now status text → OnNamedFiles Next paths told before now status text
+counted few Next paths told before now status text e h = subst (λ (b : Bool). Counted b Next paths told before now status text) (sym e) h
+
+-- where parts are found, what they give is gathered
+pub gathered : (files : List (Bor Bytes)) (told : Option Contents) (before now : ℕ) (parts : List Part) → length files ≤ 64 → AllFound (texts files) told before now parts
+    → (r : Result Gathering NoMemory) → IfOk r (GathersParts parts) → IfOk r (Gathers (texts files) told before now)
+gathered files told before now parts few (quiet, over) (Ok (gathering.Found found)) (same, fit, spelled) = (
+  quiet,
+  record {
+    contents = over.contents;
+    agrees = over.agrees;
+    holds = record {
+      few = count_few files few;
+      whole = subst (AreWhole over.contents 1 (texts files)) (sym same) over.holds;
+      fit = ap (λ (ps : List Part). nat_le (live_size ps) live_limit) same ∙ fit;
+      spelled = subst (λ (ps : List Part). SpellParts ps found.forms.items) (sym same) spelled;
+    };
+  },
+)
+gathered files told before now parts few (quiet, over) (Ok (gathering.Stopped reply)) on_parts =
+    counted true Nothing (texts files) told before now reply.status reply.text (count_few files few)
+    (inl (quiet, record { contents = over.contents; agrees = over.agrees; holds = inr (inr (record { parts = parts; whole = over.holds; on_parts = on_parts })) }))
+gathered files told before now parts few found (Err error) h = tt
+
+-- a file that isn't found whole ended the work
+pub unfound : (files : List (Bor Bytes)) (told : Option Contents) (before now : ℕ) (reply : Reply) → length files ≤ 64 → Fetches (texts files) told before now (Stopped reply)
+    → Gathers (texts files) told before now (gathering.Stopped reply)
+unfound files told before now reply few h = counted true Nothing (texts files) told before now reply.status reply.text (count_few files few) (either h)
   where
-    either : IsAbsent over.contents asked.paths reply.status reply.text ⊎ IsTooLong over.contents asked.paths reply.status reply.text → OnFiles asked over.contents reply.status reply.text
-    either (inl absent) = inl absent
-    either (inr long) = inr (inl long)
-files_stopped asked told before now reply (inr failed) = inr failed
+    either_file : (contents : Contents) → IsAbsent contents (texts files) reply.status reply.text ⊎ IsTooLong contents (texts files) reply.status reply.text
+        → OnFiles Nothing (texts files) contents reply.status reply.text
+    either_file contents (inl absent) = inl absent
+    either_file contents (inr long) = inr (inl long)
 
--- ---- a query
+    either : Fetches (texts files) told before now (Stopped reply) → OnFewFiles Nothing (texts files) told before now reply.status reply.text
+    either (inl (quiet, over)) = inl (quiet, record { contents = over.contents; agrees = over.agrees; holds = either_file over.contents over.holds })
+    either (inr failed) = inr failed
+
+-- the files are too many
+pub too_many : (files : List (Bor Bytes)) (told : Option Contents) (now count : ℕ) (reply : Reply) → count ≡ length files → 64 < count → Is 6 (many_text count) reply.status reply.text
+    → Gathers (texts files) told now now (gathering.Stopped reply)
+too_many files told now count reply e many is =
+    counted false Nothing (texts files) told now now reply.status reply.text (count_many files (omega (arith, e, many)))
+    (refl, subst (λ (n : ℕ). Is 6 (many_text n) reply.status reply.text) (e ∙ sym (length-map files (λ (s : Bor Bytes). s.now))) is)
+
+-- ---- what follows
+
+module _ (Next : Following) (status : ℕ) (text : Bytes) where
+  texts_stopped : (parts : List Part) → OnTexts Nothing parts status text → OnTexts Next parts status text
+  texts_stopped parts (inl fault) = inl fault
+  texts_stopped parts (inr spelled) = absurd spelled.follows
+
+  parts_stopped : (parts : List Part) (fits : Bool) → MatchBool fits (OnTexts Nothing parts status text) (Is 6 (live_text (live_size parts)) status text)
+      → MatchBool fits (OnTexts Next parts status text) (Is 6 (live_text (live_size parts)) status text)
+  parts_stopped parts true h = texts_stopped parts h
+  parts_stopped parts false h = h
+
+  files_stopped : (paths : List Bytes) (contents : Contents) → OnFiles Nothing paths contents status text → OnFiles Next paths contents status text
+  files_stopped paths contents (inl absent) = inl absent
+  files_stopped paths contents (inr (inl long)) = inr (inl long)
+  files_stopped paths contents (inr (inr found)) =
+      inr (inr (record { parts = found.parts; whole = found.whole; on_parts = parts_stopped found.parts (nat_le (live_size found.parts) live_limit) found.on_parts }))
+
+  few_stopped : (paths : List Bytes) (told : Option Contents) (before now : ℕ) → OnFewFiles Nothing paths told before now status text → OnFewFiles Next paths told before now status text
+  few_stopped paths told before now (inl (quiet, over)) = inl (quiet, record { contents = over.contents; agrees = over.agrees; holds = files_stopped paths over.contents over.holds })
+  few_stopped paths told before now (inr failed) = inr failed
+
+  -- what ended the work is what a command answers, whatever would have followed
+  pub named_stopped : (paths : List Bytes) (told : Option Contents) (before now : ℕ) → OnNamedFiles Nothing paths told before now status text → OnNamedFiles Next paths told before now status text
+  named_stopped paths told before now h = by_count (nat_le (length paths) file_limit) h
+    where
+      by_count : (few : Bool) → Counted few Nothing paths told before now status text → Counted few Next paths told before now status text
+      by_count true x = few_stopped paths told before now x
+      by_count false x = x
+
+-- what follows on the forms is what a command answers
+pub named_found : (Next : Following) (paths : List Bytes) (told : Option Contents) (before now : ℕ) (found : Gathered) → Gathers paths told before now (gathering.Found found)
+    → (r : Replied) → IfOk r (λ reply. Next found.parts found.forms.items reply.status reply.text) → IfOk r (λ reply. OnNamedFiles Next paths told before now reply.status reply.text)
+named_found Next paths told before now found (quiet, over) (Ok reply) next =
+    let have = over.holds in
+    counted true Next paths told before now reply.status reply.text have.few
+    (inl (
+      quiet,
+      record {
+        contents = over.contents;
+        agrees = over.agrees;
+        holds = inr (inr (record {
+          parts = found.parts;
+          whole = have.whole;
+          on_parts =
+              subst (λ (b : Bool). MatchBool b (OnTexts Next found.parts reply.status reply.text) (Is 6 (live_text (live_size found.parts)) reply.status reply.text)) (sym have.fit)
+              (inr (record { forms = found.forms.items; spelled = have.spelled; follows = next }));
+        }));
+      },
+    ))
+named_found Next paths told before now found gathers (Err error) next = tt
+
+-- the forms that were gathered stand at different places
+pub gathered_apart : (paths : List Bytes) (told : Option Contents) (before now : ℕ) (found : Gathered) → Gathers paths told before now (gathering.Found found) → PlacesDiffer found.forms.items
+gathered_apart paths told before now found (quiet, over) = whole_apart over.contents paths found.parts found.forms.items over.holds.whole over.holds.spelled
+
+-- ---- a query and a check
 
 any_over : (told : Option Contents) (P : Contents → Type 0) → ((contents : Contents) → P contents) → Over told P
 any_over (Some files) P h = record { contents = files; agrees = refl; holds = h files }
 any_over None P h = record { contents = []; agrees = tt; holds = h [] }
 
-abbrev pub few_paths : Asked → Bool
-few_paths asked = nat_le (length asked.paths) file_limit
+abbrev Asking : Bool → Asked → Option Contents → ℕ → ℕ → ℕ → Bytes → Type 0
+Asking option asked told before now status text =
+    MatchBool option ((now ≡ before) × Is 10 not_built status text) (OnNamedFiles (OnForms asked) asked.paths told before now status text)
 
-abbrev By : Bool → Bool → Asked → Contents → ℕ → Bytes → Type 0
-By option few asked contents status text = MatchBool option (Is 10 not_built status text) (MatchBool few (OnFiles asked contents status text) (Is 6 (many_text (length asked.paths)) status text))
-
-by_tests : (asked : Asked) (option few : Bool) (contents : Contents) (status : ℕ) (text : Bytes) → has_option asked ≡ option → few_paths asked ≡ few → By option few asked contents status text → OnAsked asked contents status text
-by_tests asked option few contents status text e f h =
-    subst (λ (b : Bool). By b (few_paths asked) asked contents status text) (sym e) (subst (λ (b : Bool). By option b asked contents status text) (sym f) h)
-
-abbrev Asking : Bool → Bool → Asked → Option Contents → ℕ → ℕ → ℕ → Bytes → Type 0
-Asking option few asked told before now status text =
-    MatchBool option ((now ≡ before) × Is 10 not_built status text)
-    (MatchBool few (OnAskFiles asked told before now status text) ((now ≡ before) × Is 6 (many_text (length asked.paths)) status text))
-
-asking : (asked : Asked) (option few : Bool) (told : Option Contents) (before now status : ℕ) (text : Bytes) → has_option asked ≡ option → few_paths asked ≡ few
-    → Asking option few asked told before now status text → OnAsk asked told before now status text
-asking asked option few told before now status text e f h =
-    subst (λ (b : Bool). Asking b (few_paths asked) asked told before now status text) (sym e) (subst (λ (b : Bool). Asking option b asked told before now status text) (sym f) h)
+asking : (asked : Asked) (option : Bool) (told : Option Contents) (before now status : ℕ) (text : Bytes) → has_option asked ≡ option
+    → Asking option asked told before now status text → OnAsk asked told before now status text
+asking asked option told before now status text e h = subst (λ (b : Bool). Asking b asked told before now status text) (sym e) h
 
 pub ask_option : (asked : Asked) (told : Option Contents) (count : ℕ) → has_option asked ≡ true
     → (r : Replied) → IfOk r (λ reply. Is 10 not_built reply.status reply.text) → IfOk r (λ reply. OnAsk asked told count count reply.status reply.text)
-ask_option asked told count e (Ok reply) is = asking asked true (few_paths asked) told count count reply.status reply.text e refl (refl, is)
+ask_option asked told count e (Ok reply) is = asking asked true told count count reply.status reply.text e (refl, is)
 ask_option asked told count e (Err error) is = tt
 
-pub ask_many : (asked : Asked) (told : Option Contents) (count : ℕ) → has_option asked ≡ false → few_paths asked ≡ false
-    → (r : Replied) → IfOk r (λ reply. Is 6 (many_text (length asked.paths)) reply.status reply.text) → IfOk r (λ reply. OnAsk asked told count count reply.status reply.text)
-ask_many asked told count e f (Ok reply) is = asking asked false false told count count reply.status reply.text e f (refl, is)
-ask_many asked told count e f (Err error) is = tt
+pub ask_found : (asked : Asked) (told : Option Contents) (before now : ℕ) (found : Gathered) → has_option asked ≡ false → Gathers asked.paths told before now (gathering.Found found)
+    → (r : Replied) → IfOk r (λ reply. OnForms asked found.parts found.forms.items reply.status reply.text) → IfOk r (λ reply. OnAsk asked told before now reply.status reply.text)
+ask_found asked told before now found e gathers (Ok reply) next =
+    asking asked false told before now reply.status reply.text e (named_found (OnForms asked) asked.paths told before now found gathers (Ok reply) next)
+ask_found asked told before now found e gathers (Err error) next = tt
 
-pub ask_files : (asked : Asked) (told : Option Contents) (before now : ℕ) → has_option asked ≡ false → few_paths asked ≡ true
-    → (r : Replied) → IfOk r (λ reply. OnAskFiles asked told before now reply.status reply.text) → IfOk r (λ reply. OnAsk asked told before now reply.status reply.text)
-ask_files asked told before now e f (Ok reply) h = asking asked false true told before now reply.status reply.text e f h
-ask_files asked told before now e f (Err error) h = tt
+pub ask_stopped : (asked : Asked) (told : Option Contents) (before now : ℕ) (reply : Reply) → has_option asked ≡ false → Gathers asked.paths told before now (gathering.Stopped reply)
+    → OnAsk asked told before now reply.status reply.text
+ask_stopped asked told before now reply e stopped =
+    asking asked false told before now reply.status reply.text e (named_stopped (OnForms asked) reply.status reply.text asked.paths told before now stopped)
 
 -- files are read where nothing is in the way
-reads : (asked : Asked) → is_refused (asks asked) ≡ false → has_option asked ≡ false → few_paths asked ≡ true → reads_files (asks asked) ≡ true
-reads asked good option few = λ i. not (good i) && (not (option i) && few i)
+reads : (meaning : Meaning) → is_refused meaning ≡ false → is_built meaning ≡ true → nat_le (length (paths meaning)) file_limit ≡ true → reads_files meaning ≡ true
+reads meaning good built few = λ i. not (good i) && (built i && few i)
+
+-- where they aren't, they are too many
+pub reads_none : (meaning : Meaning) → is_refused meaning ≡ false → is_built meaning ≡ true → reads_files meaning ≡ false → nat_le (length (paths meaning)) file_limit ≡ false
+reads_none meaning good built none = sym (λ i. not (good i) && (built i && nat_le (length (paths meaning)) file_limit)) ∙ none
 
 -- ---- a request
 
@@ -166,104 +277,90 @@ pub unbuilt : (count : ℕ) (r : Replied) → IfOk r (λ reply. Is 10 not_built 
 unbuilt count (Ok reply) is = (refl, is)
 unbuilt count (Err error) is = tt
 
--- ---- what was found
-
-abbrev AllFound : List Bytes → Option Contents → ℕ → ℕ → List Part → Type 0
-AllFound paths told before now parts = (now ≡ before) × Over told (λ contents. AreWhole contents 1 paths parts)
-
-pub found_short : (paths : List Bytes) (told : Option Contents) (before now : ℕ) (parts items : List Part) → AllFound paths told before now parts → items ≡ parts → AreShort items
-found_short paths told before now parts items (quiet, over) e = subst AreShort (sym e) (whole_short over.contents 1 paths parts over.holds)
-
-pub found_few : (files : List (Bor Bytes)) (told : Option Contents) (before now : ℕ) (parts items : List Part) → AllFound (texts files) told before now parts → items ≡ parts → length files ≤ 64 → length items ≤ 64
-found_few files told before now parts items (quiet, over) e few =
-    let count = whole_length over.contents 1 (texts files) parts over.holds in omega (arith, few, count, ap length e, length-map files (λ (s : Bor Bytes). s.now))
-
--- ---- the number of files
-
-at_most : (n limit : ℕ) → n ≤ limit → nat_le n limit ≡ true
-at_most n limit h = grind (arith, nat_tests)
-
-passes : (n limit : ℕ) → limit < n → nat_le n limit ≡ false
-passes n limit h = grind (arith, nat_tests)
-
-count_is : (ask : Ask) (count : ℕ) → count ≡ length ask.files.items → length (asked_value ask).paths ≡ count
-count_is ask count e = length-map ask.files.items (λ (s : Bor Bytes). s.now) ∙ sym e
-
-pub count_few : (ask : Ask) (count : ℕ) → count ≡ length ask.files.items → count ≤ 64 → few_paths (asked_value ask) ≡ true
-count_few ask count e few = ap (λ (n : ℕ). nat_le n file_limit) (count_is ask count e) ∙ at_most count file_limit few
-
-pub count_many : (ask : Ask) (count : ℕ) → count ≡ length ask.files.items → 64 < count → few_paths (asked_value ask) ≡ false
-count_many ask count e many = ap (λ (n : ℕ). nat_le n file_limit) (count_is ask count e) ∙ passes count file_limit many
-
-pub many_named : (ask : Ask) (count : ℕ) → count ≡ length ask.files.items → (r : Replied) → IfOk r (λ reply. Is 6 (many_text count) reply.status reply.text)
-    → IfOk r (λ reply. Is 6 (many_text (length (asked_value ask).paths)) reply.status reply.text)
-many_named ask count e r h = subst (λ (n : ℕ). IfOk r (λ reply. Is 6 (many_text n) reply.status reply.text)) (sym (count_is ask count e)) h
-
 -- ---- the whole tool
+
+module _ (words : List Bytes) (meaning : Meaning) (told : Option Contents) (before now status : ℕ) (text : Bytes) (means : Means words meaning) where
+  own : Over told (λ contents. HasMeaning words contents status text) → now ≡ before → Obtains words told before now status text
+  own over quiet = inl (record { quiet = quiet; gives = record { contents = over.contents; agrees = over.agrees; tool = inl over.holds } })
+
+  meant : (refused : Bool) (contents : Contents) → is_refused meaning ≡ refused → MatchBool refused (Is 2 usage status text) (OnBuilt meaning contents status text)
+      → HasMeaning words contents status text
+  meant refused contents e h = record {
+    meaning = meaning;
+    means = means;
+    on_meaning = subst (λ (b : Bool). MatchBool b (Is 2 usage status text) (OnBuilt meaning contents status text)) (sym e) h;
+  }
+
+  plainly : (P : Contents → Type 0) → ((contents : Contents) → P contents → HasMeaning words contents status text) → Over told P → now ≡ before → Obtains words told before now status text
+  plainly P f over quiet = own (record { contents = over.contents; agrees = over.agrees; holds = f over.contents over.holds }) quiet
+
+  -- whatever the files hold
+  unread : ((contents : Contents) → HasMeaning words contents status text) → now ≡ before → Obtains words told before now status text
+  unread f quiet = plainly (λ contents. Unit {0}) (λ contents h. f contents) (any_over told (λ contents. Unit {0}) (λ contents. tt)) quiet
+
+  failed_at : reads_files meaning ≡ true → Rose before now → Fails (paths meaning) told status text → Obtains words told before now status text
+  failed_at may rose failed = inr (record {
+    rose = rose;
+    four = failed.is.done;
+    names = record {
+      contents = failed.reached.contents;
+      agrees = failed.reached.agrees;
+      fault = record { meaning = meaning; means = means; reads = may; path = failed.path; reached = failed.reached.holds; page = failed.is.page_is };
+    };
+  })
+
+  over_paths : (Next : Following) → is_refused meaning ≡ false → is_built meaning ≡ true
+      → ((contents : Contents) → OnPaths Next (paths meaning) contents status text → OnBuilt meaning contents status text)
+      → OnNamedFiles Next (paths meaning) told before now status text → Obtains words told before now status text
+  over_paths Next good built make h = by_count (nat_le (length (paths meaning)) file_limit) refl h
+    where
+      on_paths : (few : Bool) (contents : Contents) → nat_le (length (paths meaning)) file_limit ≡ few
+          → MatchBool few (OnFiles Next (paths meaning) contents status text) (Is 6 (many_text (length (paths meaning))) status text) → HasMeaning words contents status text
+      on_paths few contents e x =
+          meant false contents good
+          (make contents
+          (subst (λ (b : Bool). MatchBool b (OnFiles Next (paths meaning) contents status text) (Is 6 (many_text (length (paths meaning))) status text)) (sym e) x))
+
+      by_count : (few : Bool) → nat_le (length (paths meaning)) file_limit ≡ few → Counted few Next (paths meaning) told before now status text → Obtains words told before now status text
+      by_count true e (inl (quiet, over)) = plainly (λ contents. OnFiles Next (paths meaning) contents status text) (λ contents x. on_paths true contents e x) over quiet
+      by_count true e (inr (rose, failed)) = failed_at (reads meaning good built e) rose failed
+      by_count false e (quiet, is) = unread (λ contents. on_paths false contents e is) quiet
+
+module _ (words : List Bytes) (told : Option Contents) (before now status : ℕ) (text : Bytes) where
+  asked_obtains : (asked : Asked) → Means words (asks asked) → is_refused (asks asked) ≡ false → OnAsk asked told before now status text → Obtains words told before now status text
+  asked_obtains asked means good h = by_option (has_option asked) refl h
+    where
+      on_asked : (option : Bool) (contents : Contents) → has_option asked ≡ option
+          → MatchBool option (Is 10 not_built status text) (OnPaths (OnForms asked) asked.paths contents status text) → OnAsked asked contents status text
+      on_asked option contents e x =
+          subst (λ (b : Bool). MatchBool b (Is 10 not_built status text) (OnPaths (OnForms asked) asked.paths contents status text)) (sym e) x
+
+      by_option : (option : Bool) → has_option asked ≡ option → Asking option asked told before now status text → Obtains words told before now status text
+      by_option true e (quiet, is) =
+          unread words (asks asked) told before now status text means
+          (λ contents. meant words (asks asked) told before now status text means false contents good (on_asked true contents e is)) quiet
+      by_option false e x =
+          over_paths words (asks asked) told before now status text means (OnForms asked) good (ap not e) (λ contents y. on_asked false contents e y) x
+
+  good_obtains : (meaning : Meaning) → Means words meaning → is_refused meaning ≡ false → OnGoodRequest meaning told before now status text → Obtains words told before now status text
+  good_obtains (asks asked) means good h = asked_obtains asked means good h
+  good_obtains (checks files) means good h = over_paths words (checks files) told before now status text means ShowsDiagnostics good refl (λ contents x. x) h
+  good_obtains (gives_clauses files) means good (quiet, is) =
+      unread words (gives_clauses files) told before now status text means (λ contents. meant words (gives_clauses files) told before now status text means false contents good is) quiet
+  good_obtains (exports files) means good (quiet, is) =
+      unread words (exports files) told before now status text means (λ contents. meant words (exports files) told before now status text means false contents good is) quiet
+  good_obtains (drills size) means good (quiet, is) =
+      unread words (drills size) told before now status text means (λ contents. meant words (drills size) told before now status text means false contents good is) quiet
+
+  request_obtains : (meaning : Meaning) → Means words meaning → (refused : Bool) → is_refused meaning ≡ refused → OnTest refused meaning told before now status text
+      → Obtains words told before now status text
+  request_obtains meaning means true e (quiet, is) =
+      unread words meaning told before now status text means (λ contents. meant words meaning told before now status text means true contents e is) quiet
+  request_obtains meaning means false e h = good_obtains meaning means e h
 
 pub obtains : (words : List Bytes) (meaning : Meaning) (told : Option Contents) (before now : ℕ) → Means words meaning
     → (r : Replied) → IfOk r (λ reply. OnRequest meaning told before now reply.status reply.text) → IfOk r (λ reply. Obtains words told before now reply.status reply.text)
-obtains words meaning told before now means (Ok reply) h = by_test (is_refused meaning) refl h
-  where
-    own : Over told (λ contents. HasMeaning words contents reply.status reply.text) → now ≡ before → Obtains words told before now reply.status reply.text
-    own over quiet = inl (record { quiet = quiet; gives = record { contents = over.contents; agrees = over.agrees; tool = inl over.holds } })
-
-    meant : (refused : Bool) (contents : Contents) → is_refused meaning ≡ refused → MatchBool refused (Is 2 usage reply.status reply.text) (OnBuilt meaning contents reply.status reply.text)
-        → HasMeaning words contents reply.status reply.text
-    meant refused contents e h = record {
-      meaning = meaning;
-      means = means;
-      on_meaning = subst (λ (b : Bool). MatchBool b (Is 2 usage reply.status reply.text) (OnBuilt meaning contents reply.status reply.text)) (sym e) h;
-    }
-
-    plainly : (P : Contents → Type 0) → ((contents : Contents) → P contents → HasMeaning words contents reply.status reply.text) → Over told P → now ≡ before
-        → Obtains words told before now reply.status reply.text
-    plainly P f over quiet = own (record { contents = over.contents; agrees = over.agrees; holds = f over.contents over.holds }) quiet
-
-    good : (m : Meaning) → meaning ≡ m → is_refused meaning ≡ false → OnGoodRequest m told before now reply.status reply.text → Obtains words told before now reply.status reply.text
-    good (asks asked) e f h = by_option (has_option asked) (few_paths asked) refl refl h
-      where
-        found : (option few : Bool) → has_option asked ≡ option → few_paths asked ≡ few → (P : Contents → Type 0)
-            → ((contents : Contents) → P contents → By option few asked contents reply.status reply.text) → Over told P → now ≡ before
-            → Obtains words told before now reply.status reply.text
-        found option few o w P make over quiet =
-            plainly P
-            (λ contents p.
-            meant false contents f
-            (subst (λ (m : Meaning). OnBuilt m contents reply.status reply.text) (sym e) (by_tests asked option few contents reply.status reply.text o w (make contents p)))) over quiet
-
-        failed_at : has_option asked ≡ false → few_paths asked ≡ true → Rose before now → Fails asked.paths told reply.status reply.text → Obtains words told before now reply.status reply.text
-        failed_at o w rose failed = inr (record {
-          rose = rose;
-          four = failed.is.done;
-          names = record {
-            contents = failed.reached.contents;
-            agrees = failed.reached.agrees;
-            fault = record {
-              asked = asked;
-              means = subst (Means words) e means;
-              reads = reads asked (ap is_refused (sym e) ∙ f) o w;
-              path = failed.path;
-              reached = failed.reached.holds;
-              page = failed.is.page_is;
-            };
-          };
-        })
-
-        by_option : (option few : Bool) → has_option asked ≡ option → few_paths asked ≡ few → Asking option few asked told before now reply.status reply.text
-            → Obtains words told before now reply.status reply.text
-        by_option true few o w (quiet, is) = found true few o w (λ contents. Unit {0}) (λ contents p. is) (any_over told (λ contents. Unit {0}) (λ contents. tt)) quiet
-        by_option false true o w (inl (quiet, over)) = found false true o w (λ contents. OnFiles asked contents reply.status reply.text) (λ contents p. p) over quiet
-        by_option false true o w (inr (rose, failed)) = failed_at o w rose failed
-        by_option false false o w (quiet, is) = found false false o w (λ contents. Unit {0}) (λ contents p. is) (any_over told (λ contents. Unit {0}) (λ contents. tt)) quiet
-    good (checks paths) e f (quiet, is) = plainly (λ contents. Unit {0}) (λ contents h. meant false contents f (subst (λ (m : Meaning). OnBuilt m contents reply.status reply.text) (sym e) is)) (any_over told (λ contents. Unit {0}) (λ contents. tt)) quiet
-    good (gives_clauses paths) e f (quiet, is) = plainly (λ contents. Unit {0}) (λ contents h. meant false contents f (subst (λ (m : Meaning). OnBuilt m contents reply.status reply.text) (sym e) is)) (any_over told (λ contents. Unit {0}) (λ contents. tt)) quiet
-    good (exports paths) e f (quiet, is) = plainly (λ contents. Unit {0}) (λ contents h. meant false contents f (subst (λ (m : Meaning). OnBuilt m contents reply.status reply.text) (sym e) is)) (any_over told (λ contents. Unit {0}) (λ contents. tt)) quiet
-    good (drills size) e f (quiet, is) = plainly (λ contents. Unit {0}) (λ contents h. meant false contents f (subst (λ (m : Meaning). OnBuilt m contents reply.status reply.text) (sym e) is)) (any_over told (λ contents. Unit {0}) (λ contents. tt)) quiet
-
-    by_test : (refused : Bool) → is_refused meaning ≡ refused → OnTest refused meaning told before now reply.status reply.text → Obtains words told before now reply.status reply.text
-    by_test true e (quiet, is) = plainly (λ contents. Unit {0}) (λ contents h. meant true contents e is) (any_over told (λ contents. Unit {0}) (λ contents. tt)) quiet
-    by_test false e h = good meaning refl e h
+obtains words meaning told before now means (Ok reply) h = request_obtains words told before now reply.status reply.text meaning means (is_refused meaning) refl h
 obtains words meaning told before now means (Err error) h = tt
 
 pub obtains_usage : (words : List Bytes) (told : Option Contents) (count : ℕ) → (IsTaken words → ⊥)

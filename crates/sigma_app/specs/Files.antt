@@ -1,5 +1,5 @@
 -- The files of a command, and the parts that they make.
-use Rattle.std.specs.Prelude.{◌≡◌, ℕ, ◌+◌, ◌≤◌, List, [], ◌∷◌, ◌++◌, length, map, Some}
+use Rattle.std.specs.Prelude.{◌≡◌, ℕ, ◌+◌, ◌≤◌, nat_le, true, List, [], ◌∷◌, ◌++◌, length, map, Some}
 use Rattle.sigma_base.specs.Lists.{Each}
 use Rattle.kif_tree.specs.declared.place.Located.{Located}
 use Rattle.kif_tree.specs.declared.place.LoadName.{LoadName}
@@ -15,6 +15,14 @@ Contents = List (Bytes × Bytes)
 -- the greatest number of bytes of a file
 abbrev pub byte_limit : ℕ
 byte_limit = 8388608
+
+-- the greatest number of files
+abbrev pub file_limit : ℕ
+file_limit = 64
+
+-- the greatest number of bytes of all texts together
+abbrev pub live_limit : ℕ
+live_limit = 67108864
 
 -- the file of the path is there and within the limit, and the part of this number is made of it
 pub record IsWhole (contents : Contents) (path : Bytes) (at : ℕ) (part : Part) : Type 0 where
@@ -57,3 +65,11 @@ abbrev pub SpellParts : List Part → List Located → Type 0
 SpellParts [] forms = forms ≡ []
 SpellParts (part ∷ parts) forms =
     (mine : List Located) × (rest : List Located) × (forms ≡ mine ++ rest) × Spells part.number part.text mine × SpellParts parts rest
+
+-- The files of the paths are few, each is whole, and their texts have no more bytes together than may be. They make these parts and spell
+-- these forms.
+pub record HaveForms (contents : Contents) (paths : List Bytes) (parts : List Part) (forms : List Located) : Type 0 where
+  pub few : nat_le (length paths) file_limit ≡ true
+  pub whole : AreWhole contents 1 paths parts
+  pub fit : nat_le (live_size parts) live_limit ≡ true
+  pub spelled : SpellParts parts forms

@@ -4,17 +4,30 @@ use Rattle.kif_tree.specs.declared.form.Form.{Form}
 use Rattle.kif_tree.specs.Terms.{Bytes, is_ground, has_no_row}
 use Rattle.kif_tree.specs.Clauses.{is_headed}
 use Rattle.sigma_app.specs.Plain.{is_plain_head, IsPlainAtom}
-use Rattle.sigma_app.specs.Requests.{IsTaken, NamesNone}
-use Rattle.sigma_app.specs.Files.{Contents}
+use Rattle.diagnose.specs.declared.diagnostic.Diagnostic.{Diagnostic}
+use Rattle.diagnose.specs.Diagnostics.{AreDiagnostics}
+use Rattle.kif_tree.specs.declared.place.Located.{Located}
+use Rattle.sigma_app.specs.declared.files.Part.{Part}
+use Rattle.sigma_app.specs.Requests.{checks, Means, IsTaken, NamesNone}
+use Rattle.sigma_app.specs.Files.{Contents, HaveForms}
 use Rattle.sigma_app.specs.Tool.{Is, usage, Tool}
 
 -- a status and a text for which this holds
 abbrev pub Outcome : (ℕ → Bytes → Type 0) → Type 0
 Outcome Gives = (status : ℕ) × (text : Bytes) × Gives status text
 
--- the tool has an outcome for every list of words, whatever the files hold
+-- the tool has an outcome for every list of words that don't mean a check, whatever the files hold
 abbrev pub ToolAnswers : Type 0
-ToolAnswers = (words : List Bytes) (contents : Contents) → Outcome (Tool words contents)
+ToolAnswers = (words : List Bytes) (contents : Contents) → ((files : List Bytes) → Means words (checks files) → ⊥) → Outcome (Tool words contents)
+
+-- the forms of the files, where all is well with these, have a list of diagnostics
+abbrev pub HaveDiagnostics : Contents → List Bytes → Type 0
+HaveDiagnostics contents files = (parts : List Part) (forms : List Located) → HaveForms contents files parts forms → (list : List Diagnostic) × AreDiagnostics forms list
+
+-- The tool has an outcome for a check of files whose forms have a list of diagnostics. That all forms have one is no law of the definitions:
+-- it is known of those for which a run of the tool found the list.
+abbrev pub ChecksAnswer : Type 0
+ChecksAnswer = (words : List Bytes) (contents : Contents) (files : List Bytes) → Means words (checks files) → HaveDiagnostics contents files → Outcome (Tool words contents)
 
 abbrev pub SameOutcome : ℕ → ℕ → Bytes → Bytes → Type 0
 SameOutcome status other text page = (status ≡ other) × (text ≡ page)

@@ -1,3 +1,4 @@
+pub mod CheckPage
 pub mod Commands
 pub mod Evidence
 pub mod Files

@@ -9,15 +9,12 @@ use Rattle.kif_tree.specs.declared.form.Form.TheVariants as form
 use Rattle.kif_tree.specs.Terms.{Bytes}
 use Rattle.kif_tree.specs.Shape.{logical_words, is_among}
 use Rattle.kif_reader.specs.Chunks.{is_word_byte}
+use Rattle.signatures.specs.Arities.{shown_heads}
 
 -- a letter, and then word characters
 abbrev pub is_plain_word : Bytes → Bool
 is_plain_word [] = false
 is_plain_word (byte ∷ bytes) = is_ascii_alphabetic byte && list_all is_word_byte bytes
-
--- the heads of forms that are only shown
-abbrev pub shown_heads : List Bytes
-shown_heads = codes "documentation" ∷ codes "termFormat" ∷ codes "format" ∷ []
 
 -- a word with a meaning of its own at a head
 abbrev pub is_special : Bytes → Bool

@@ -8,10 +8,12 @@ use Rattle.sigma_app.specs.declared.files.Body.{Body}
 use Rattle.sigma_app.specs.declared.files.Body.TheVariants as body
 use Rattle.sigma_app.specs.declared.files.Fetching.{Fetching}
 use Rattle.sigma_app.specs.declared.files.Fetching.TheVariants.{Found, Stopped}
+use Rattle.sigma_app.specs.declared.gather.Gathering.{Gathering}
+use Rattle.sigma_app.specs.declared.gather.Gathering.TheVariants as gathering
 use Rattle.sigma_app.specs.Requests.{Asked, Meaning, asks, checks, gives_clauses, exports, drills, Means, IsTaken, is_refused}
-use Rattle.sigma_app.specs.Files.{Contents, byte_limit, AreWhole, IsReached}
+use Rattle.sigma_app.specs.Files.{Contents, byte_limit, file_limit, AreWhole, IsReached, HaveForms}
 use Rattle.sigma_app.specs.Evidence.{ShowsProof}
-use Rattle.sigma_app.specs.Tool.{Is, usage, not_built, many_text, file_limit, has_option, reads_files, absent_text, long_text, fault_text, IsAbsent, IsTooLong, OnFiles, Agrees, GivesTool, IsFault}
+use Rattle.sigma_app.specs.Tool.{Is, usage, not_built, many_text, has_option, reads_files, absent_text, long_text, fault_text, IsAbsent, IsTooLong, Following, Nothing, OnForms, ShowsDiagnostics, OnFiles, Agrees, GivesTool, IsFault}
 
 -- a status that tells of the outside or of memory: a fault of the files, a failed write, want of memory
 abbrev pub IsTrouble : ℕ → Type 0
@@ -33,12 +35,16 @@ MustBeRefused words = (meaning : Meaning) → Means words meaning → is_refused
 abbrev pub NeedsNoFile : List Bytes → Type 0
 NeedsNoFile words = (meaning : Meaning) → Means words meaning → reads_files meaning ≡ false
 
--- The status and the text are the tool's for contents that agree with those told, and where an answer is shown, so is a proof over these
+-- where the words ask a query and an answer is shown, so is a proof over these contents
+abbrev pub IsProved : List Bytes → Contents → ℕ → Bytes → Type 0
+IsProved words contents status text = (asked : Asked) → Means words (asks asked) → status ≡ 0 → ShowsProof words contents text
+
+-- The status and the text are the tool's for contents that agree with those told, and the answer that they show is proved over these
 -- contents. The whole text was appended.
 pub record Appends (words : List Bytes) (told : Option Contents) (old new : Option Bytes) (status : ℕ) : Type 0 where
   pub text : Bytes
   pub gives : GivesTool words told status text
-  pub proved : status ≡ 0 → ShowsProof words gives.contents text
+  pub proved : IsProved words gives.contents status text
   pub appended : new ≡ append_known old text
 
 -- the count of the files rose, and the text that names the file was appended
@@ -53,7 +59,7 @@ pub record ReportsFault (words : List Bytes) (told : Option Contents) (before no
 -- a text of the tool's own, with the proof of what it shows
 pub record IsOwnText (words : List Bytes) (told : Option Contents) (status : ℕ) (text : Bytes) : Type 0 where
   pub gives : GivesTool words told status text
-  pub proved : status ≡ 0 → ShowsProof words gives.contents text
+  pub proved : IsProved words gives.contents status text
 
 -- the text that names a file which could not be fetched
 pub record IsFaultText (words : List Bytes) (told : Option Contents) (text : Bytes) : Type 0 where
@@ -105,20 +111,29 @@ Fetches paths told before now (Found parts) = (now ≡ before) × Over told (λ 
 Fetches paths told before now (Stopped reply) =
     OnFetches paths told before now (λ contents. IsAbsent contents paths reply.status reply.text ⊎ IsTooLong contents paths reply.status reply.text) reply.status reply.text
 
--- a query over files
-abbrev pub OnAskFiles : Asked → Option Contents → ℕ → ℕ → ℕ → Bytes → Type 0
-OnAskFiles asked told before now status text = OnFetches asked.paths told before now (λ contents. OnFiles asked contents status text) status text
+-- few files, and what follows on their forms
+abbrev pub OnFewFiles : Following → List Bytes → Option Contents → ℕ → ℕ → ℕ → Bytes → Type 0
+OnFewFiles Next paths told before now status text = OnFetches paths told before now (λ contents. OnFiles Next paths contents status text) status text
 
--- nothing is fetched where an option is given or the files are too many
+-- nothing is fetched where the files are too many
+abbrev pub OnNamedFiles : Following → List Bytes → Option Contents → ℕ → ℕ → ℕ → Bytes → Type 0
+OnNamedFiles Next paths told before now status text =
+    MatchBool (nat_le (length paths) file_limit) (OnFewFiles Next paths told before now status text) ((now ≡ before) × Is 6 (many_text (length paths)) status text)
+
+-- the files have these forms, or a reply ended the work
+abbrev pub Gathers : List Bytes → Option Contents → ℕ → ℕ → Gathering → Type 0
+Gathers paths told before now (gathering.Found found) = (now ≡ before) × Over told (λ contents. HaveForms contents paths found.parts found.forms.items)
+Gathers paths told before now (gathering.Stopped reply) = OnNamedFiles Nothing paths told before now reply.status reply.text
+
+-- nothing is fetched where an option is given
 abbrev pub OnAsk : Asked → Option Contents → ℕ → ℕ → ℕ → Bytes → Type 0
 OnAsk asked told before now status text =
-    MatchBool (has_option asked) ((now ≡ before) × Is 10 not_built status text)
-    (MatchBool (nat_le (length asked.paths) file_limit) (OnAskFiles asked told before now status text) ((now ≡ before) × Is 6 (many_text (length asked.paths)) status text))
+    MatchBool (has_option asked) ((now ≡ before) × Is 10 not_built status text) (OnNamedFiles (OnForms asked) asked.paths told before now status text)
 
 -- a request whose words are good
 abbrev pub OnGoodRequest : Meaning → Option Contents → ℕ → ℕ → ℕ → Bytes → Type 0
 OnGoodRequest (asks asked) told before now status text = OnAsk asked told before now status text
-OnGoodRequest (checks paths) told before now status text = (now ≡ before) × Is 10 not_built status text
+OnGoodRequest (checks paths) told before now status text = OnNamedFiles ShowsDiagnostics paths told before now status text
 OnGoodRequest (gives_clauses paths) told before now status text = (now ≡ before) × Is 10 not_built status text
 OnGoodRequest (exports paths) told before now status text = (now ≡ before) × Is 10 not_built status text
 OnGoodRequest (drills size) told before now status text = (now ≡ before) × Is 10 not_built status text

@@ -10,15 +10,21 @@ use Rattle.kif_reader.specs.declared.kinds.ReadError.{ReadError}
 use Rattle.kif_reader.specs.declared.kinds.ReadError.TheVariants as unread
 use Rattle.kif_reader.specs.Spelling.{Spells, FirstFault}
 use Rattle.sig_io.specs.Told.{body_of}
+use Rattle.diagnose.specs.declared.diagnostic.Diagnostic.{Diagnostic}
+use Rattle.diagnose.specs.Diagnostics.{AreDiagnostics}
+use Rattle.sigma_app.specs.Requests as requests
 use Rattle.sigma_app.specs.Requests.{Asked, Meaning, asks, checks, gives_clauses, exports, drills, Means, IsTaken, is_refused}
 use Rattle.sigma_app.specs.Plain.{IsPlainAtom}
 use Rattle.sigma_app.specs.declared.files.Part.{Part}
+use Rattle.sigma_app.specs.declared.gather.Gathering.{Gathering}
+use Rattle.sigma_app.specs.declared.gather.Gathering.TheVariants as gathering
 use Rattle.sigma_app.specs.declared.forms.Reading.{Reading}
 use Rattle.sigma_app.specs.declared.forms.Reading.TheVariants.{Forms, Stopped}
-use Rattle.sigma_app.specs.Files.{Contents, byte_limit, AreWhole, IsReached, live_size, load_names, SpellParts}
+use Rattle.sigma_app.specs.Files.{Contents, byte_limit, file_limit, live_limit, AreWhole, IsReached, live_size, load_names, SpellParts}
 use Rattle.sigma_app.specs.Matching.{IsFirstMatch, HasNoMatchIn, binding}
 use Rattle.sigma_app.specs.Proof.{values, lines_of}
 use Rattle.sigma_app.specs.Page.{answer_text, end_text}
+use Rattle.sigma_app.specs.CheckPage.{check_page}
 
 -- ---- texts
 
@@ -135,11 +141,27 @@ pub record Declines (asked : Asked) (facts : List Located) (status : ℕ) (text 
   pub not_plain : (query : Form) → IsPlain asked facts query → ⊥
   pub is : Is 10 not_built status text
 
--- over the forms of all files
+-- a query over the forms of all files
 abbrev pub OnForms : Asked → List Part → List Located → ℕ → Bytes → Type 0
 OnForms asked parts facts status text = Replies asked parts facts status text ⊎ Declines asked facts status text
 
+-- ---- a check
+
+-- the page of all diagnostics of the forms of all files
+pub record ShowsDiagnostics (parts : List Part) (forms : List Located) (status : ℕ) (text : Bytes) : Type 0 where
+  pub list : List Diagnostic
+  pub are : AreDiagnostics forms list
+  pub is : Is 0 (check_page (load_names parts) list) status text
+
 -- ---- the texts of the files
+
+-- what a command does with the forms of all files, once these are read
+abbrev pub Following : Type 1
+Following = List Part → List Located → ℕ → Bytes → Type 0
+
+-- nothing follows
+abbrev pub Nothing : Following
+Nothing parts forms status text = ⊥
 
 -- the text of the part has a fault
 pub record IsFaulty (part : Part) (status : ℕ) (text : Bytes) : Type 0 where
@@ -160,21 +182,17 @@ pub record HasFault (parts : List Part) (status : ℕ) (text : Bytes) : Type 0 w
   pub spelled : SpellParts earlier forms
   pub faulty : IsFaulty part status text
 
-pub record AreSpelled (asked : Asked) (parts : List Part) (status : ℕ) (text : Bytes) : Type 0 where
-  pub facts : List Located
-  pub spelled : SpellParts parts facts
-  pub on_forms : OnForms asked parts facts status text
+pub record AreSpelled (Next : Following) (parts : List Part) (status : ℕ) (text : Bytes) : Type 0 where
+  pub forms : List Located
+  pub spelled : SpellParts parts forms
+  pub follows : Next parts forms status text
 
 -- over the texts of the files
-abbrev pub OnTexts : Asked → List Part → ℕ → Bytes → Type 0
-OnTexts asked parts status text = HasFault parts status text ⊎ AreSpelled asked parts status text
+abbrev pub OnTexts : Following → List Part → ℕ → Bytes → Type 0
+OnTexts Next parts status text = HasFault parts status text ⊎ AreSpelled Next parts status text
 
--- the greatest number of bytes of all texts together
-abbrev pub live_limit : ℕ
-live_limit = 67108864
-
-abbrev pub OnParts : Asked → List Part → ℕ → Bytes → Type 0
-OnParts asked parts status text = MatchBool (nat_le (live_size parts) live_limit) (OnTexts asked parts status text) (Is 6 (live_text (live_size parts)) status text)
+abbrev pub OnParts : Following → List Part → ℕ → Bytes → Type 0
+OnParts Next parts status text = MatchBool (nat_le (live_size parts) live_limit) (OnTexts Next parts status text) (Is 6 (live_text (live_size parts)) status text)
 
 -- what the reading of one part gives
 abbrev pub ReadsPart : Part → Reading → Type 0
@@ -185,6 +203,11 @@ ReadsPart part (Stopped reply) = IsFaulty part reply.status reply.text
 abbrev pub ReadsParts : List Part → Reading → Type 0
 ReadsParts parts (Forms forms) = SpellParts parts forms.items
 ReadsParts parts (Stopped reply) = HasFault parts reply.status reply.text
+
+-- the forms of these parts, or the reply that ended the work
+abbrev pub GathersParts : List Part → Gathering → Type 0
+GathersParts parts (gathering.Found found) = (found.parts ≡ parts) × (nat_le (live_size parts) live_limit ≡ true) × SpellParts parts found.forms.items
+GathersParts parts (gathering.Stopped reply) = OnParts Nothing parts reply.status reply.text
 
 -- ---- the files
 
@@ -204,38 +227,41 @@ pub record IsTooLong (contents : Contents) (paths : List Bytes) (status : ℕ) (
   pub long : nat_le (length body) byte_limit ≡ false
   pub is : Is 6 (long_text path) status text
 
-pub record AreFound (asked : Asked) (contents : Contents) (status : ℕ) (text : Bytes) : Type 0 where
+pub record AreFound (Next : Following) (paths : List Bytes) (contents : Contents) (status : ℕ) (text : Bytes) : Type 0 where
   pub parts : List Part
-  pub whole : AreWhole contents 1 asked.paths parts
-  pub on_parts : OnParts asked parts status text
+  pub whole : AreWhole contents 1 paths parts
+  pub on_parts : OnParts Next parts status text
 
-abbrev pub OnFiles : Asked → Contents → ℕ → Bytes → Type 0
-OnFiles asked contents status text = IsAbsent contents asked.paths status text ⊎ (IsTooLong contents asked.paths status text ⊎ AreFound asked contents status text)
+abbrev pub OnFiles : Following → List Bytes → Contents → ℕ → Bytes → Type 0
+OnFiles Next paths contents status text = IsAbsent contents paths status text ⊎ (IsTooLong contents paths status text ⊎ AreFound Next paths contents status text)
+
+-- a command over files, by the order of work: the number of files, and then what the files hold
+abbrev pub OnPaths : Following → List Bytes → Contents → ℕ → Bytes → Type 0
+OnPaths Next paths contents status text =
+    MatchBool (nat_le (length paths) file_limit) (OnFiles Next paths contents status text) (Is 6 (many_text (length paths)) status text)
 
 -- ---- the whole tool
 
--- the greatest number of files
-abbrev pub file_limit : ℕ
-file_limit = 64
-
--- a query over files, by the order of work: options, the number of files, and then what the files hold
+-- a query over files, where no option is given
 abbrev pub OnAsked : Asked → Contents → ℕ → Bytes → Type 0
-OnAsked asked contents status text =
-    MatchBool (has_option asked) (Is 10 not_built status text)
-    (MatchBool (nat_le (length asked.paths) file_limit) (OnFiles asked contents status text) (Is 6 (many_text (length asked.paths)) status text))
+OnAsked asked contents status text = MatchBool (has_option asked) (Is 10 not_built status text) (OnPaths (OnForms asked) asked.paths contents status text)
 
--- what the words mean has files read: a query that isn't refused, without options and over files that are few enough
+-- what the words mean is built: a query without options, or a check
+abbrev pub is_built : Meaning → Bool
+is_built (asks asked) = not (has_option asked)
+is_built (checks paths) = true
+is_built (gives_clauses paths) = false
+is_built (exports paths) = false
+is_built (drills size) = false
+
+-- what the words mean has files read: it is built and isn't refused, and the files are few enough
 abbrev pub reads_files : Meaning → Bool
-reads_files (asks asked) = not (is_refused (asks asked)) && (not (has_option asked) && nat_le (length asked.paths) file_limit)
-reads_files (checks paths) = false
-reads_files (gives_clauses paths) = false
-reads_files (exports paths) = false
-reads_files (drills size) = false
+reads_files meaning = not (is_refused meaning) && (is_built meaning && nat_le (length (requests.paths meaning)) file_limit)
 
 -- the other commands are not built
 abbrev pub OnBuilt : Meaning → Contents → ℕ → Bytes → Type 0
 OnBuilt (asks asked) contents status text = OnAsked asked contents status text
-OnBuilt (checks paths) contents status text = Is 10 not_built status text
+OnBuilt (checks paths) contents status text = OnPaths ShowsDiagnostics paths contents status text
 OnBuilt (gives_clauses paths) contents status text = Is 10 not_built status text
 OnBuilt (exports paths) contents status text = Is 10 not_built status text
 OnBuilt (drills size) contents status text = Is 10 not_built status text
@@ -261,11 +287,11 @@ Tool words contents status text = HasMeaning words contents status text ⊎ AreN
 
 -- the text where files are read and one could not be fetched, before which all are whole
 pub record IsFault (words : List Bytes) (contents : Contents) (text : Bytes) : Type 0 where
-  pub asked : Asked
-  pub means : Means words (asks asked)
-  pub reads : reads_files (asks asked) ≡ true
+  pub meaning : Meaning
+  pub means : Means words meaning
+  pub reads : reads_files meaning ≡ true
   pub path : Bytes
-  pub reached : IsReached contents asked.paths path
+  pub reached : IsReached contents (requests.paths meaning) path
   pub page : text ≡ fault_text path
 
 -- contents that are those told, where the files tell

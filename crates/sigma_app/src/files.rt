@@ -6,7 +6,7 @@ ghost use Rattle.sigma_app.specs.Tool as tool;
 ghost use Rattle.sigma_app.specs.Run as run;
 
 use crate::reply::{Reply, path_reply};
-use kif_tree::Text;
+use kif_tree::{LoadName, Text};
 use sig_io::{FetchError, Fetched, Files};
 use sigma_base::{Listed, NoMemory};
 use std::alloc::Global;
@@ -105,4 +105,18 @@ pub fn live_size(parts: &[Part]) -> u64
         size += part.text.bytes().len() as u64;
     }
     size
+}
+
+/// The paths as the names of the loads.
+pub fn load_names(alloc: Global, parts: &[Part]) -> Result<Listed<LoadName>, NoMemory>
+    ensures { IfOk result (λ names. names ≡ spec.load_names parts.now) }
+{
+    let mut names = Listed::new(alloc);
+    for part in parts {
+        names.push(LoadName {
+            number: part.number,
+            name: part.name.copy(alloc)?,
+        })?;
+    }
+    Ok(names)
 }

@@ -1,9 +1,12 @@
 //! The top calls: the command-line tool over any files and any sink.
 #![tactic(auto)]
 
+mod check;
+mod check_page;
 mod commands;
 mod files;
 mod forms;
+mod gather;
 mod laws;
 mod matching;
 mod page;
@@ -19,5 +22,7 @@ pub use tool::run_tool;
 
 #[cfg(test)]
 mod tests;
+#[cfg(test)]
+mod tests_check;
 #[cfg(test)]
 mod tests_requests;

@@ -4,6 +4,7 @@ ghost use Rattle.std.specs.List.{list_all};
 ghost use Rattle.sigma_base.specs.Lists.{Each};
 ghost use Rattle.kif_reader.specs.Chunks as chunks;
 ghost use Rattle.kif_tree.specs.Shape as shape;
+ghost use Rattle.signatures.specs.Arities.{shown_heads};
 ghost use Rattle.sigma_app.specs.Plain as spec;
 ghost use Rattle.sigma_app.specs.Tool.{IsPlainFact};
 
@@ -47,7 +48,7 @@ fn is_logical(word: &[u8]) -> bool
 }
 
 fn heads_shown(word: &[u8]) -> bool
-    ensures { result ≡ shape.is_among spec.shown_heads word.now }
+    ensures { result ≡ shape.is_among shown_heads word.now }
 {
     word == b"documentation".as_slice()
         || word == b"termFormat".as_slice()

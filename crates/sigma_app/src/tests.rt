@@ -7,11 +7,11 @@ use std::alloc::Global;
 use std::process::Abort;
 use std::test::Fail;
 
-type File = (&'static str, &'static str);
+pub type File = (&'static str, &'static str);
 
 /// One run: the words, the files, which fetches and which writes fail, and what must come of it.
 #[derive(Drop)]
-struct Run {
+pub struct Run {
     words: &'static [&'static str],
     files: &'static [File],
     failing_fetches: &'static [u64],
@@ -20,7 +20,7 @@ struct Run {
     printed: &'static str,
 }
 
-const fn quiet(
+pub const fn quiet(
     words: &'static [&'static str],
     files: &'static [File],
     status: u8,
@@ -29,7 +29,7 @@ const fn quiet(
     failing(words, files, &[], &[], status, printed)
 }
 
-const fn failing(
+pub const fn failing(
     words: &'static [&'static str],
     files: &'static [File],
     failing_fetches: &'static [u64],
@@ -94,14 +94,14 @@ fn check(rt: &impl Abort, alloc: Global, run: &Run) -> Result<(), NoMemory> {
     Ok(())
 }
 
-fn check_all(rt: &impl Abort, alloc: Global, runs: &[Run]) -> Result<(), NoMemory> {
+pub fn check_all(rt: &impl Abort, alloc: Global, runs: &[Run]) -> Result<(), NoMemory> {
     for run in runs {
         check(rt, alloc, run)?;
     }
     Ok(())
 }
 
-const USAGE: &str =
+pub const USAGE: &str =
     "usage: sigma ask [--turns N] [--answers N] [--kept N] [--mode support|full] QUERY FILE...\n       sigma check FILE...\n       sigma clauses FILE...\n       sigma export FILE...\n       sigma drill N\n       sigma serve --port P --workers N --store FILE\n";
 
 #[test]
@@ -244,7 +244,6 @@ fn says_what_is_not_built(rt: HostRuntime) -> Result<(), Fail> {
         rt.alloc(),
         &[
             quiet(&["drill", "2000"], &[], 10, not_built),
-            quiet(&["check", "a.kif"], &[], 10, not_built),
             quiet(&["clauses", "a.kif", "b.kif"], &[], 10, not_built),
             quiet(&["export", "a.kif"], &[], 10, not_built),
             quiet(
@@ -314,7 +313,6 @@ fn refuses_other_words(rt: HostRuntime) -> Result<(), Fail> {
                 USAGE,
             ),
             quiet(&["ask", "(p a)", "a.kif", "b.kif", "a.kif"], FACT, 2, USAGE),
-            quiet(&["check", "b.kif", "b.kif"], FACT, 2, USAGE),
             quiet(
                 &["ask", "--turns", "5", "(p a)", "a.kif", "a.kif"],
                 FACT,
@@ -377,7 +375,6 @@ fn fetches_nothing_where_the_words_need_no_file(rt: HostRuntime) -> Result<(), F
                 10,
                 "not built\n",
             ),
-            failing(&["check", "a.kif"], TWO, first, &[], 10, "not built\n"),
             failing(
                 &["export", "a.kif", "b.kif"],
                 TWO,
@@ -494,14 +491,14 @@ fn name_of(alloc: Global, number: u64) -> Result<Text, NoMemory> {
     Ok(name)
 }
 
-/// What comes of a query over files that hold so many spaces each.
-fn over_spaces(
+/// What comes of the words before the paths of files that hold so many spaces each.
+pub fn over_spaces(
     rt: &impl Abort,
     alloc: Global,
-    query: &str,
+    before: &[&str],
     lengths: &[usize],
 ) -> Result<(u8, Text), NoMemory> {
-    let mut words = words_of(alloc, &["ask", query])?;
+    let mut words = words_of(alloc, before)?;
     let mut files = Vec::new(alloc);
     let mut number: u64 = 0;
     for length in lengths {
@@ -550,7 +547,7 @@ fn keeps_the_limits(rt: HostRuntime) -> Result<(), Fail> {
         (&[0; 65], 6, "limit files 65\n"),
     ];
     for (lengths, status, printed) in cases {
-        let (ended, text) = over_spaces(&rt, rt.alloc(), "(p a)", lengths)?;
+        let (ended, text) = over_spaces(&rt, rt.alloc(), &["ask", "(p a)"], lengths)?;
         assert_eq!(rt; ended, status);
         assert_eq!(rt; text.bytes(), printed.as_bytes());
     }
@@ -561,7 +558,7 @@ fn keeps_the_limits(rt: HostRuntime) -> Result<(), Fail> {
 fn keeps_the_limit_of_a_query(rt: HostRuntime) -> Result<(), Fail> {
     for (length, status, printed) in [(FULL, 10, "not built\n"), (FULL + 1, 2, USAGE)] {
         let query = spaces(&rt, rt.alloc(), length)?;
-        let (ended, text) = over_spaces(&rt, rt.alloc(), expect_text(&rt, &query), &[1])?;
+        let (ended, text) = over_spaces(&rt, rt.alloc(), &["ask", expect_text(&rt, &query)], &[1])?;
         assert_eq!(rt; ended, status);
         assert_eq!(rt; text.bytes(), printed.as_bytes());
     }

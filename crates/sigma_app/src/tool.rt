@@ -4,23 +4,24 @@ ghost use Rattle.sigma_base.specs.Lists.{Each};
 ghost use Rattle.sig_io.specs.Causes.{Rose};
 ghost use Rattle.sigma_app.specs.Matching.{IsFlat};
 ghost use Rattle.sigma_app.specs.Plain.{IsPlainAtom};
-ghost use Rattle.sigma_app.specs.Files as files_spec;
 ghost use Rattle.sigma_app.specs.Requests as requests;
 ghost use Rattle.sigma_app.specs.Tool as spec;
 ghost use Rattle.sigma_app.specs.Run as run;
 
-use crate::files::{Fetching, Part, fetch_files, live_size};
-use crate::forms::{Reading, read_parts, read_query};
+use crate::check::diagnostics_reply;
+use crate::files::{Part, load_names};
+use crate::forms::read_query;
+use crate::gather::{Gathering, gather};
 use crate::matching::{binding_of, first_match};
 use crate::page::{append_answer, append_end};
 use crate::plain::are_plain_facts;
 use crate::proof::proof_lines;
 use crate::refusals::is_refused;
-use crate::reply::{Reply, fixed_reply, limit_reply};
+use crate::reply::{Reply, fixed_reply};
 use crate::requests::{Ask, Request, WordsError, request_of};
-use kif_tree::{Form, LoadName, Located, Subst, Text};
+use kif_tree::{Form, Located, Subst, Text};
 use sig_io::{Files, Sink, Words, WriteError, write_all};
-use sigma_base::{Listed, NoMemory};
+use sigma_base::NoMemory;
 use std::alloc::Global;
 
 const USAGE: &[u8] =
@@ -42,19 +43,6 @@ fn usage(alloc: Global) -> Result<Reply, NoMemory>
     ensures { IfOk result (λ reply. spec.Is 2 spec.usage reply.status reply.text) }
 {
     fixed_reply(alloc, 2, USAGE)
-}
-
-fn load_names(alloc: Global, parts: &[Part]) -> Result<Listed<LoadName>, NoMemory>
-    ensures { IfOk result (λ names. names ≡ files_spec.load_names parts.now) }
-{
-    let mut names = Listed::new(alloc);
-    for part in parts {
-        names.push(LoadName {
-            number: part.number,
-            name: part.name.copy(alloc)?,
-        })?;
-    }
-    Ok(names)
 }
 
 fn found_page(
@@ -107,7 +95,7 @@ fn shown(alloc: Global, parts: &[Part], facts: &[Located], query: &Form) -> Resu
     }
 }
 
-/// The reply over the forms of all files.
+/// The reply to a query over the forms of all files.
 fn forms_reply(
     alloc: Global,
     ask: &Ask<'_>,
@@ -123,47 +111,6 @@ fn forms_reply(
     match read_query(alloc, ask.query.as_bytes())? {
         Some(query) => shown(alloc, parts, facts, &query),
         None => not_built(alloc),
-    }
-}
-
-/// The reply over the texts of the files.
-fn texts_reply(alloc: Global, ask: &Ask<'_>, parts: &[Part]) -> Result<Reply, NoMemory>
-    requires query { length ask.now.query.now ≤ 8388608 }
-    requires short { files_spec.AreShort parts.now }
-    ensures { IfOk result (λ reply. spec.OnTexts (requests.asked_value ask.now) parts.now reply.status reply.text) }
-{
-    match read_parts(alloc, parts)? {
-        Reading::Forms(facts) => forms_reply(alloc, ask, parts, facts.as_slice()),
-        Reading::Stopped(reply) => Ok(reply),
-    }
-}
-
-/// The reply over the parts that the files make.
-fn parts_reply(alloc: Global, ask: &Ask<'_>, parts: &[Part]) -> Result<Reply, NoMemory>
-    requires query { length ask.now.query.now ≤ 8388608 }
-    requires short { files_spec.AreShort parts.now }
-    requires few { length parts.now ≤ 64 }
-    ensures { IfOk result (λ reply. spec.OnParts (requests.asked_value ask.now) parts.now reply.status reply.text) }
-{
-    let size = live_size(parts);
-    if size > 67_108_864 {
-        return limit_reply(alloc, b"limit live ", size);
-    }
-    texts_reply(alloc, ask, parts)
-}
-
-/// The reply to a query over the files that are named.
-fn files_reply<F: Files>(alloc: Global, ask: &Ask<'_>, files: &mut F) -> Result<Reply, NoMemory>
-    requires query { length ask.now.query.now ≤ 8388608 }
-    requires few { length ask.now.files.items ≤ 64 }
-    requires apart { requests.stand_twice (requests.texts ask.now.files.items) ≡ false }
-    ensures told { F.told files.new ≡ F.told files.old }
-    ensures reply { IfOk result (λ reply. run.OnAskFiles (requests.asked_value ask.now) (F.told files.old) (F.faults files.old) (F.faults files.new) reply.status reply.text) }
-    ensures cause { OnErr result (run.MayHaveRisen (F.faults files.old) (F.faults files.new)) }
-{
-    match fetch_files(alloc, ask.files.as_slice(), files)? {
-        Fetching::Found(parts) => parts_reply(alloc, ask, parts.items()),
-        Fetching::Stopped(reply) => Ok(reply),
     }
 }
 
@@ -184,11 +131,33 @@ fn ask_reply<F: Files>(alloc: Global, ask: &Ask<'_>, files: &mut F) -> Result<Re
     if has_option(ask) {
         return not_built(alloc);
     }
-    let count = ask.files.len();
-    if count > 64 {
-        return limit_reply(alloc, b"limit files ", count as u64);
+    match gather(alloc, ask.files.as_slice(), files)? {
+        Gathering::Found(found) => forms_reply(
+            alloc,
+            ask,
+            found.parts.items(),
+            found.forms.as_slice(),
+        ),
+        Gathering::Stopped(reply) => Ok(reply),
     }
-    files_reply(alloc, ask, files)
+}
+
+/// The reply to a check whose words are good.
+fn check_reply<F: Files>(alloc: Global, paths: &[&str], files: &mut F) -> Result<Reply, NoMemory>
+    requires good { requests.is_refused (requests.checks (requests.texts paths.now)) ≡ false }
+    ensures told { F.told files.new ≡ F.told files.old }
+    ensures reply { IfOk result (λ reply. run.OnGoodRequest (requests.checks (requests.texts paths.now)) (F.told files.old) (F.faults files.old) (F.faults files.new) reply.status reply.text) }
+    ensures cause { OnErr result (run.MayHaveRisen (F.faults files.old) (F.faults files.new)) }
+    ensures unfetched { spec.reads_files (requests.checks (requests.texts paths.now)) ≡ false → F.faults files.new ≡ F.faults files.old }
+{
+    match gather(alloc, paths, files)? {
+        Gathering::Found(found) => diagnostics_reply(
+            alloc,
+            found.parts.items(),
+            found.forms.as_slice(),
+        ),
+        Gathering::Stopped(reply) => Ok(reply),
+    }
 }
 
 /// The reply to a request.
@@ -207,6 +176,7 @@ fn request_reply<F: Files>(
     }
     match request {
         Request::Ask(ask) => ask_reply(alloc, ask, files),
+        Request::Check(paths) => check_reply(alloc, paths.as_slice(), files),
         _ => not_built(alloc),
     }
 }
@@ -234,9 +204,9 @@ fn print_reply<S: Sink>(out: &mut S, reply: &Reply) -> u8
     }
 }
 
-/// Does what the words ask, with files from `files`, and prints to `out`. The answer is the status: 0 an answer is shown, 1 none is,
-/// 2 the words are refused, 3 a file is absent, 4 one could not be fetched, 5 a text has a fault, 6 a limit is passed, 8 a write failed,
-/// 9 want of memory, 10 the command, an option, a form of a file or the query is not built yet.
+/// Does what the words ask, with files from `files`, and prints to `out`. The answer is the status: 0 an answer or the page of a check is
+/// shown, 1 no answer is, 2 the words are refused, 3 a file is absent, 4 one could not be fetched, 5 a text has a fault, 6 a limit is
+/// passed, 8 a write failed, 9 want of memory, 10 the command, an option, the query or a form under a query is not built yet.
 pub fn run_tool<F: Files, S: Sink>(alloc: Global, words: &Words, files: &mut F, out: &mut S) -> u8
     // Status and text are the tool's for some contents; where the files tell what they hold, for just these. An answer that is shown has
     // a proof: a derivation that ends in just what is shown, whose cited lines hold its premises and whose evidence refutes.

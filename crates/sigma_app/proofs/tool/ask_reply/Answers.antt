@@ -1,21 +1,27 @@
-use Rattle.std.proofs.Common.{◌≡◌, length, sym, ◌∙◌, rules}
-use Rattle.sigma_app.specs.Requests.{asked_value}
-use Rattle.sigma_app.proofs.ToolLaws.{count_few, count_many, many_named, ask_option, ask_many, ask_files}
+use Rattle.std.proofs.Common.{List, sym, subst, ◌∙◌}
+use Rattle.std.specs.Borrow.{Bor}
+use Rattle.kif_tree.specs.Terms.{Bytes}
+use Rattle.sigma_app.specs.declared.gather.Gathering.TheVariants.{Found, Stopped}
+use Rattle.sigma_app.specs.Requests.{asked_value, texts}
+use Rattle.sigma_app.specs.Run.{Gathers}
+use Rattle.sigma_app.proofs.ToolLaws.{ask_option, ask_found, ask_stopped}
 use Rattle.sigma_app.proofs.tool.ask_reply.Goals as goal
 
 pub returns-then-has_option-clause-reply : goal.returns-then-has_option-clause-reply
 returns-then-has_option-clause-reply g c =
     ask_option (asked_value c.args.ask.now) (g.F.Files.told c.args.files.now) (g.F.Files.faults c.args.files.now) (sym c.has_option.ensures ∙ c.if-has_option.true) c.not_built.result c.not_built.ensures
 
-pub returns-then-count-gt64-clause-reply : goal.returns-then-count-gt64-clause-reply
-returns-then-count-gt64-clause-reply g c =
-    let count : c.len-count.result ≡ length c.args.ask.now.files.items = search rules in
-    ask_many (asked_value c.args.ask.now) (g.F.Files.told c.args.files.now) (g.F.Files.faults c.args.files.now) (sym c.has_option.ensures ∙ c.if-has_option.false)
-    (count_many c.args.ask.now c.len-count.result count c.if-count-gt64.true) c.limit_reply.result
-    (many_named c.args.ask.now c.len-count.result count c.limit_reply.result c.limit_reply.ensures)
+pub returns-in-Found-clause-reply : goal.returns-in-Found-clause-reply
+returns-in-Found-clause-reply g c =
+    ask_found (asked_value c.args.ask.now) (g.F.Files.told c.args.files.now) (g.F.Files.faults c.args.files.now) (g.F.Files.faults c.gather.new.files) c.in-Found.found
+    (sym c.has_option.ensures ∙ c.if-has_option.false)
+    (subst (λ (files : List (Bor Bytes)). Gathers (texts files) (g.F.Files.told c.args.files.now) (g.F.Files.faults c.args.files.now) (g.F.Files.faults c.gather.new.files) (Found c.in-Found.found))
+    c.as_slice.ensures.value (rw c.in-Found.is at c.in_ok-found.ensures.gathers))
+    c.forms_reply.result (rw c.as_slice-in-Found.ensures.value at rw c.items.ensures at c.forms_reply.ensures)
 
-pub returns-clause-reply : goal.returns-clause-reply
-returns-clause-reply g c =
-    let count : c.len-count.result ≡ length c.args.ask.now.files.items = search rules in
-    ask_files (asked_value c.args.ask.now) (g.F.Files.told c.args.files.now) (g.F.Files.faults c.args.files.now) (g.F.Files.faults c.files_reply.new.files)
-    (sym c.has_option.ensures ∙ c.if-has_option.false) (count_few c.args.ask.now c.len-count.result count c.if-count-gt64.false) c.files_reply.result c.files_reply.ensures.reply
+pub returns-in-Stopped-clause-reply : goal.returns-in-Stopped-clause-reply
+returns-in-Stopped-clause-reply g c =
+    ask_stopped (asked_value c.args.ask.now) (g.F.Files.told c.args.files.now) (g.F.Files.faults c.args.files.now) (g.F.Files.faults c.gather.new.files) c.in-Stopped.reply
+    (sym c.has_option.ensures ∙ c.if-has_option.false)
+    (subst (λ (files : List (Bor Bytes)). Gathers (texts files) (g.F.Files.told c.args.files.now) (g.F.Files.faults c.args.files.now) (g.F.Files.faults c.gather.new.files) (Stopped c.in-Stopped.reply))
+    c.as_slice.ensures.value (rw c.in-Stopped.is at c.in_ok-found.ensures.gathers))
