@@ -1,5 +1,4 @@
 pub mod AtomLaws
-pub mod DiagnosticLaws
 pub mod EvidenceLaws
 pub mod FileLaws
 pub mod MatchLaws

@@ -29,7 +29,7 @@ use Rattle.sigma_app.specs.Page.{answer_text, end_text}
 use Rattle.sigma_app.specs.Files.{load_names}
 use Rattle.sigma_app.specs.CheckPage.{check_page}
 use Rattle.sigma_app.proofs.PlaceLaws.{whole_apart}
-use Rattle.sigma_app.proofs.DiagnosticLaws.{one_list}
+use Rattle.diagnose.proofs.OneListLaws.{one_list}
 use Rattle.sigma_app.specs.Tool.{Is, usage, not_built, absent_text, long_text, live_text, many_text, fault_in, syntax_text, has_option, found_page, Shows, SpellsQuery, OnForms, ShowsDiagnostics, Following, IsFaulty, OnTexts, OnParts, OnFiles, OnPaths, OnAsked, OnBuilt, HasMeaning, Tool}
 use Rattle.sigma_app.specs.Laws.{SameOutcome}
 
