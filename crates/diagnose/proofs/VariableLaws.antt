@@ -1,7 +1,7 @@
 -- Faults of variables, as they are found.
 use Rattle.std.proofs.Common.{◌≡◌, ℕ, ◌+◌, ◌<◌, ◌≤◌, ◌⊎◌, ◌||◌, ◌&&◌, not, List, [], ◌∷◌, ◌++◌, length, get_or, take, Bool, true, false, refl, sym, ap, ap₂, subst, ◌∙◌, arith, inl, inr}
 use Rattle.std.specs.Prelude.{Contains, Option, None, codes, Result, Ok, Err, OnOk}
-use Rattle.std.specs.List.{list_any, flat_map}
+use Rattle.std.specs.List.{flat_map}
 use Rattle.std.specs.Str.{bytes_eq}
 use Rattle.std.proofs.lemmas.List.{take_all, take_more}
 use Rattle.std.proofs.lemmas.List.Folds.{list_any-append}
@@ -13,11 +13,10 @@ use Rattle.kif_tree.specs.declared.form.Form.TheOpen.{Form-F}
 use Rattle.kif_tree.specs.declared.form.Form.TheVariants as form
 use Rattle.kif_tree.specs.declared.place.Place.{Place}
 use Rattle.diagnose.proofs.FoundLaws.{contains_nothing, contains_first, contains_later, contains_cases, adds_none, adds_same, adds_both}
-use Rattle.diagnose.proofs.FreeLaws.{or_none, same_variable, same_other, listed_more, contains_listed, listed_contains, not_listed, listed_not, quantifies, bound_quantified, bound_unquantified, quantifier_no_list, bound_names, listing, is_free_variable, is_free_other, is_free_quantified, is_free_parts, lists-List, IsWithin, lists_within, within_lists, no_lists, lists_of_names}
-use Rattle.diagnose.specs.Diagnostics.{IsOfVariables}
+use Rattle.diagnose.proofs.FreeLaws.{or_none, same_variable, same_other, listed_more, contains_listed, listed_contains, not_listed, listed_not, quantifies, bound_quantified, bound_unquantified, quantifier_no_list, bound_names, listing, is_free_variable, is_free_other, is_free_quantified, is_free_parts, lists-List, lists_within, within_lists, no_lists, lists_of_names}
 use Rattle.diagnose.specs.Found.{Adds, OfSome}
 use Rattle.diagnose.specs.VariableWalk.{is_listed, is_free, is_free_in, Collects, fault, IsOnlyIn, IsUnusedAt, IsFaultAt}
-use Rattle.diagnose.specs.Variables.{IsFree, IsFreeOnlyIn, with_prefix, implication, HasUnquantified, HasUnused}
+use Rattle.diagnose.specs.Variables.{IsFreeOnlyIn, with_prefix, implication, HasUnquantified, HasUnused}
 use Rattle.diagnose.specs.declared.diagnostic.Diagnostic.{Diagnostic}
 
 false_true : false ≡ true → ⊥
@@ -166,8 +165,11 @@ quantifier_to : (place : Place) (head names body : Form) → quantifies head nam
 quantifier_to place head names body binds d (inl h) =
     unused_to place (head ∷ names ∷ body ∷ []) d
     (record { one = body; among = contains_later head (names ∷ body ∷ []) body (contains_later names (body ∷ []) body (contains_first body [])); holds = h })
-quantifier_to place head names body binds d (inr o) =
-    (ap (λ (e : Diagnostic). e.place) o.is, (ap (λ (e : Diagnostic). e.code) o.is, record {
+quantifier_to place head names body binds d (inr o) = (
+  ap (λ (e : Diagnostic). e.place) o.is,
+  (
+    ap (λ (e : Diagnostic). e.code) o.is,
+    record {
       quantifier = head;
       variables = names;
       body = body;
@@ -177,7 +179,9 @@ quantifier_to place head names body binds d (inr o) =
       unused = not_listed (free body) o.name o.not_in_other;
       names = ap (λ (e : Diagnostic). e.term) o.is;
       alone = ap (λ (e : Diagnostic). e.other) o.is;
-    }))
+    },
+  ),
+)
 
 last_of : (a b c x y z : Form) → a ∷ b ∷ c ∷ [] ≡ x ∷ y ∷ z ∷ [] → c ≡ z
 last_of a b c x y z e = cc
@@ -309,15 +313,20 @@ abbrev IsOpenAt : Place → Form → Diagnostic → Type 0
 IsOpenAt place f d = (d.place ≡ place) × ((d.code ≡ 6) × HasUnquantified f d.term d.other)
 
 implication_to : (place : Place) (first second : Form) (d : Diagnostic) → IsOpenIn place second first d → IsOpenAt place (implication (codes "=>") first second) d
-implication_to place first second d o =
-    (ap (λ (e : Diagnostic). e.place) o.is, (ap (λ (e : Diagnostic). e.code) o.is, record {
+implication_to place first second d o = (
+  ap (λ (e : Diagnostic). e.place) o.is,
+  (
+    ap (λ (e : Diagnostic). e.code) o.is,
+    record {
       first = first;
       second = second;
       name = o.name;
       free_in_one = inl (refl, only_free second first o.name o.in_one o.not_in_other);
       names = ap (λ (e : Diagnostic). e.term) o.is;
       alone = ap (λ (e : Diagnostic). e.other) o.is;
-    }))
+    },
+  ),
+)
 
 implication_back : (place : Place) (first second : Form) (d : Diagnostic) → IsOpenAt place (implication (codes "=>") first second) d → IsOpenIn place second first d
 implication_back place first second d (at, (code, u)) = go u.free_in_one
@@ -330,24 +339,34 @@ implication_back place first second d (at, (code, u)) = go u.free_in_one
     go (inr (e, h)) = absurd (words_differ (implications_alike (codes "=>") (codes "<=>") first second u.first u.second e).0)
 
 equivalence_to : (place : Place) (first second : Form) (d : Diagnostic) → IsOpenIn place second first d ⊎ IsOpenIn place first second d → IsOpenAt place (implication (codes "<=>") first second) d
-equivalence_to place first second d (inl o) =
-    (ap (λ (e : Diagnostic). e.place) o.is, (ap (λ (e : Diagnostic). e.code) o.is, record {
+equivalence_to place first second d (inl o) = (
+  ap (λ (e : Diagnostic). e.place) o.is,
+  (
+    ap (λ (e : Diagnostic). e.code) o.is,
+    record {
       first = first;
       second = second;
       name = o.name;
       free_in_one = inr (refl, inr (only_free second first o.name o.in_one o.not_in_other));
       names = ap (λ (e : Diagnostic). e.term) o.is;
       alone = ap (λ (e : Diagnostic). e.other) o.is;
-    }))
-equivalence_to place first second d (inr o) =
-    (ap (λ (e : Diagnostic). e.place) o.is, (ap (λ (e : Diagnostic). e.code) o.is, record {
+    },
+  ),
+)
+equivalence_to place first second d (inr o) = (
+  ap (λ (e : Diagnostic). e.place) o.is,
+  (
+    ap (λ (e : Diagnostic). e.code) o.is,
+    record {
       first = first;
       second = second;
       name = o.name;
       free_in_one = inr (refl, inl (only_free first second o.name o.in_one o.not_in_other));
       names = ap (λ (e : Diagnostic). e.term) o.is;
       alone = ap (λ (e : Diagnostic). e.other) o.is;
-    }))
+    },
+  ),
+)
 
 equivalence_back : (place : Place) (first second : Form) (d : Diagnostic) → IsOpenAt place (implication (codes "<=>") first second) d → IsOpenIn place second first d ⊎ IsOpenIn place first second d
 equivalence_back place first second d (at, (code, u)) = go u.free_in_one
