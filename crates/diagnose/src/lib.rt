@@ -3,6 +3,8 @@
 
 mod diagnostic;
 mod list;
+#[cfg(test)]
+mod tests;
 mod variables;
 
 pub use diagnostic::Diagnostic;
