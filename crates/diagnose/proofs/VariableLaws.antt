@@ -1,9 +1,9 @@
 -- Faults of variables, as they are found.
 use Rattle.std.proofs.Common.{◌≡◌, ℕ, ◌+◌, ◌<◌, ◌≤◌, ◌⊎◌, ◌||◌, ◌&&◌, not, List, [], ◌∷◌, ◌++◌, length, get_or, take, Bool, true, false, refl, sym, ap, ap₂, subst, ◌∙◌, arith, inl, inr}
 use Rattle.std.specs.Prelude.{Contains, Option, None, codes, Result, Ok, Err, OnOk}
-use Rattle.std.specs.List.{list_any, flat_map}
+use Rattle.std.specs.List.{flat_map}
 use Rattle.std.specs.Str.{bytes_eq}
-use Rattle.std.proofs.lemmas.List.{take_all, take_more}
+use Rattle.std.proofs.lemmas.List.{take_more}
 use Rattle.std.proofs.lemmas.List.Folds.{list_any-append}
 use Rattle.kif_tree.specs.Names.{parts_in, bound, free, lists}
 use Rattle.kif_tree.specs.Shape.{is_among, is_quantifier, is_quantifier_layer, lists_names_layer}
@@ -13,11 +13,10 @@ use Rattle.kif_tree.specs.declared.form.Form.TheOpen.{Form-F}
 use Rattle.kif_tree.specs.declared.form.Form.TheVariants as form
 use Rattle.kif_tree.specs.declared.place.Place.{Place}
 use Rattle.diagnose.proofs.FoundLaws.{contains_nothing, contains_first, contains_later, contains_cases, adds_none, adds_same, adds_both}
-use Rattle.diagnose.proofs.FreeLaws.{or_none, same_variable, same_other, listed_more, contains_listed, listed_contains, not_listed, listed_not, quantifies, bound_quantified, bound_unquantified, quantifier_no_list, bound_names, listing, is_free_variable, is_free_other, is_free_quantified, is_free_parts, lists-List, IsWithin, lists_within, within_lists, no_lists, lists_of_names}
-use Rattle.diagnose.specs.Diagnostics.{IsOfVariables}
+use Rattle.diagnose.proofs.FreeLaws.{or_none, same_variable, same_other, listed_more, contains_listed, listed_contains, not_listed, listed_not, quantifies, bound_quantified, bound_unquantified, quantifier_no_list, bound_names, listing, is_free_variable, is_free_other, is_free_quantified, is_free_parts, lists-List, lists_within, within_lists, no_lists, lists_of_names}
 use Rattle.diagnose.specs.Found.{Adds, OfSome}
 use Rattle.diagnose.specs.VariableWalk.{is_listed, is_free, is_free_in, Collects, fault, IsOnlyIn, IsUnusedAt, IsFaultAt}
-use Rattle.diagnose.specs.Variables.{IsFree, IsFreeOnlyIn, with_prefix, implication, HasUnquantified, HasUnused}
+use Rattle.diagnose.specs.Variables.{IsFreeOnlyIn, with_prefix, implication, HasUnquantified, HasUnused}
 use Rattle.diagnose.specs.declared.diagnostic.Diagnostic.{Diagnostic}
 
 false_true : false ≡ true → ⊥
@@ -30,13 +29,6 @@ or_true false = refl
 or_twice : (a b c : Bool) → ((a || b) || c) ≡ (a || (b || c))
 or_twice true b c = refl
 or_twice false b c = refl
-
-or_middle : (a b c : Bool) → (a || (b || c)) ≡ ((a || c) || b)
-or_middle true b c = refl
-or_middle false true true = refl
-or_middle false true false = refl
-or_middle false false true = refl
-or_middle false false false = refl
 
 and_not : (a b c : Bool) → ((a && not b) && not c) ≡ (a && not (b || c))
 and_not true true c = refl
@@ -70,9 +62,6 @@ adds_only_more code place one more all other old mid new e h k =
     back : (d : Diagnostic) → IsOnlyIn code place all other d → IsOnlyIn code place one other d ⊎ IsOnlyIn code place more other d
     back d o = which d o (one o.name) refl (sym (e o.name) ∙ o.in_one)
 
-pub adds_only_none : (code : ℕ) (place : Place) (one other : Bytes → Bool) (list : List Diagnostic) → ((name : Bytes) → one name ≡ false) → Adds (IsOnlyIn code place one other) list list
-adds_only_none code place one other list none = adds_none (IsOnlyIn code place one other) list (λ d o. false_true (sym (none o.name) ∙ o.in_one))
-
 -- ---- loops over the names that a quantifier lists
 
 pub listed_step : (names : List Form) (i : ℕ) (f : Form) (text : Bytes) → i < length names → f ≡ get_or names i f → f ≡ form.Variable text → (name : Bytes)
@@ -96,9 +85,6 @@ pub drops_skip : (names : List Form) (i : ℕ) (f : Form) (old mid : List Bytes)
     → Drops old (take i names) mid → Drops old (take (i + 1) names) mid
 drops_skip names i f old mid lt is apart h = λ name. h name ∙ ap (λ b. is_among old name && not b) (sym (listed_skip names i f lt is apart name))
 
-pub drops_all : (names : List Form) (i : ℕ) (old new : List Bytes) → length names ≤ i → Drops old (take i names) new → Drops old names new
-drops_all names i old new end h = subst (λ (fs : List Form). Drops old fs new) (take_all i names end) h
-
 pub unused_step : (place : Place) (names : List Form) (i : ℕ) (f : Form) (text : Bytes) (set : List Bytes) (old mid new : List Diagnostic) → i < length names → f ≡ get_or names i f → f ≡ form.Variable text
     → Adds (IsOnlyIn 7 place (is_listed (take i names)) (is_among set)) old mid → Adds (IsOnlyIn 7 place (λ other. bytes_eq other text) (is_among set)) mid new
     → Adds (IsOnlyIn 7 place (is_listed (take (i + 1) names)) (is_among set)) old new
@@ -109,10 +95,6 @@ pub unused_skip : (place : Place) (names : List Form) (i : ℕ) (f : Form) (set 
     → Adds (IsOnlyIn 7 place (is_listed (take i names)) (is_among set)) old mid → Adds (IsOnlyIn 7 place (is_listed (take (i + 1) names)) (is_among set)) old mid
 unused_skip place names i f set old mid lt is apart h =
     adds_only_same 7 place (is_listed (take i names)) (is_among set) (is_listed (take (i + 1) names)) (is_among set) old mid (λ name. sym (listed_skip names i f lt is apart name)) (λ name. refl) h
-
-pub unused_all : (place : Place) (names : List Form) (i : ℕ) (set : List Bytes) (old new : List Diagnostic) → length names ≤ i
-    → Adds (IsOnlyIn 7 place (is_listed (take i names)) (is_among set)) old new → Adds (IsOnlyIn 7 place (is_listed names) (is_among set)) old new
-unused_all place names i set old new end h = subst (λ (fs : List Form). Adds (IsOnlyIn 7 place (is_listed fs) (is_among set)) old new) (take_all i names end) h
 
 -- ---- one fault
 
@@ -166,8 +148,11 @@ quantifier_to : (place : Place) (head names body : Form) → quantifies head nam
 quantifier_to place head names body binds d (inl h) =
     unused_to place (head ∷ names ∷ body ∷ []) d
     (record { one = body; among = contains_later head (names ∷ body ∷ []) body (contains_later names (body ∷ []) body (contains_first body [])); holds = h })
-quantifier_to place head names body binds d (inr o) =
-    (ap (λ (e : Diagnostic). e.place) o.is, (ap (λ (e : Diagnostic). e.code) o.is, record {
+quantifier_to place head names body binds d (inr o) = (
+  ap (λ (e : Diagnostic). e.place) o.is,
+  (
+    ap (λ (e : Diagnostic). e.code) o.is,
+    record {
       quantifier = head;
       variables = names;
       body = body;
@@ -177,7 +162,9 @@ quantifier_to place head names body binds d (inr o) =
       unused = not_listed (free body) o.name o.not_in_other;
       names = ap (λ (e : Diagnostic). e.term) o.is;
       alone = ap (λ (e : Diagnostic). e.other) o.is;
-    }))
+    },
+  ),
+)
 
 last_of : (a b c x y z : Form) → a ∷ b ∷ c ∷ [] ≡ x ∷ y ∷ z ∷ [] → c ≡ z
 last_of a b c x y z e = cc
@@ -309,15 +296,20 @@ abbrev IsOpenAt : Place → Form → Diagnostic → Type 0
 IsOpenAt place f d = (d.place ≡ place) × ((d.code ≡ 6) × HasUnquantified f d.term d.other)
 
 implication_to : (place : Place) (first second : Form) (d : Diagnostic) → IsOpenIn place second first d → IsOpenAt place (implication (codes "=>") first second) d
-implication_to place first second d o =
-    (ap (λ (e : Diagnostic). e.place) o.is, (ap (λ (e : Diagnostic). e.code) o.is, record {
+implication_to place first second d o = (
+  ap (λ (e : Diagnostic). e.place) o.is,
+  (
+    ap (λ (e : Diagnostic). e.code) o.is,
+    record {
       first = first;
       second = second;
       name = o.name;
       free_in_one = inl (refl, only_free second first o.name o.in_one o.not_in_other);
       names = ap (λ (e : Diagnostic). e.term) o.is;
       alone = ap (λ (e : Diagnostic). e.other) o.is;
-    }))
+    },
+  ),
+)
 
 implication_back : (place : Place) (first second : Form) (d : Diagnostic) → IsOpenAt place (implication (codes "=>") first second) d → IsOpenIn place second first d
 implication_back place first second d (at, (code, u)) = go u.free_in_one
@@ -330,24 +322,34 @@ implication_back place first second d (at, (code, u)) = go u.free_in_one
     go (inr (e, h)) = absurd (words_differ (implications_alike (codes "=>") (codes "<=>") first second u.first u.second e).0)
 
 equivalence_to : (place : Place) (first second : Form) (d : Diagnostic) → IsOpenIn place second first d ⊎ IsOpenIn place first second d → IsOpenAt place (implication (codes "<=>") first second) d
-equivalence_to place first second d (inl o) =
-    (ap (λ (e : Diagnostic). e.place) o.is, (ap (λ (e : Diagnostic). e.code) o.is, record {
+equivalence_to place first second d (inl o) = (
+  ap (λ (e : Diagnostic). e.place) o.is,
+  (
+    ap (λ (e : Diagnostic). e.code) o.is,
+    record {
       first = first;
       second = second;
       name = o.name;
       free_in_one = inr (refl, inr (only_free second first o.name o.in_one o.not_in_other));
       names = ap (λ (e : Diagnostic). e.term) o.is;
       alone = ap (λ (e : Diagnostic). e.other) o.is;
-    }))
-equivalence_to place first second d (inr o) =
-    (ap (λ (e : Diagnostic). e.place) o.is, (ap (λ (e : Diagnostic). e.code) o.is, record {
+    },
+  ),
+)
+equivalence_to place first second d (inr o) = (
+  ap (λ (e : Diagnostic). e.place) o.is,
+  (
+    ap (λ (e : Diagnostic). e.code) o.is,
+    record {
       first = first;
       second = second;
       name = o.name;
       free_in_one = inr (refl, inl (only_free first second o.name o.in_one o.not_in_other));
       names = ap (λ (e : Diagnostic). e.term) o.is;
       alone = ap (λ (e : Diagnostic). e.other) o.is;
-    }))
+    },
+  ),
+)
 
 equivalence_back : (place : Place) (first second : Form) (d : Diagnostic) → IsOpenAt place (implication (codes "<=>") first second) d → IsOpenIn place second first d ⊎ IsOpenIn place first second d
 equivalence_back place first second d (at, (code, u)) = go u.free_in_one
@@ -399,17 +401,6 @@ adds_equivalence place first second none also in_first in_second kept old mid la
     (adds_only_same 6 place (is_among in_second) (is_among in_first) (is_free second) (is_free first) late last (collected second also in_second k g) (collected first none in_first e h) three)
     (adds_only_same 6 place (is_among in_first) (is_among kept) (is_free first) (is_free second) last new (collected first none in_first e h)
     (λ name. back name ∙ collected second also in_second k g name) four)))
-
--- no implication and no equivalence
-pub adds_plain : (place : Place) (f : Form) (old new : List Diagnostic) → ((first second : Form) → f ≡ implication (codes "=>") first second → ⊥) → ((first second : Form) → f ≡ implication (codes "<=>") first second → ⊥)
-    → Adds (IsUnusedAt place f) old new → Adds (IsFaultAt place f) old new
-adds_plain place f old new not_first not_second h = adds_faults place f old new new h (adds_none (IsOpenAt place f) new (λ d o. go d o.1.1 o.1.1.free_in_one))
-  where
-    go : (d : Diagnostic) (u : HasUnquantified f d.term d.other)
-        → ((f ≡ implication (codes "=>") u.first u.second) × IsFreeOnlyIn u.second u.first u.name)
-        ⊎ ((f ≡ implication (codes "<=>") u.first u.second) × (IsFreeOnlyIn u.first u.second u.name ⊎ IsFreeOnlyIn u.second u.first u.name)) → ⊥
-    go d u (inl (e, h)) = not_first u.first u.second e
-    go d u (inr (e, h)) = not_second u.first u.second e
 
 -- ---- what each function has to show
 

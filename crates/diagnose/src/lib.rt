@@ -8,6 +8,8 @@ mod diagnostic;
 mod laws;
 mod list;
 mod order;
+#[cfg(test)]
+mod variable_tests;
 mod variables;
 #[cfg(test)]
 mod word_tests;

@@ -1,4 +1,4 @@
-use Rattle.std.proofs.Common.{◌≡◌, ℕ, List, [], ◌∷◌, sym, ◌∙◌, arith}
+use Rattle.std.proofs.Common.{◌≡◌, ℕ, [], ◌∷◌, sym, ◌∙◌, arith}
 use borrow.Author.Tests.{ltb-true, ltb-false}
 use Rattle.kif_tree.specs.Names.{bound}
 use Rattle.diagnose.proofs.FreeLaws.{bound_short, bound_long}
@@ -24,8 +24,8 @@ pub collect_all-loop-part-preserved : goal.collect_all-loop-part-preserved
 collect_all-loop-part-preserved t c = record {
   free = free_more c.args.parts.now c.loop-part.part-index c.part-item.result c.args.free.now c.loop-part.free c.collect.new.free c.loop-part-test.true c.part-item.is c.loop-part.invariant.free c.in_ok-collect.ensures.free;
   found =
-    adds_more (IsUnusedAt c.args.place) c.args.parts.now c.loop-part.part-index c.part-item.result c.args.found.now.items c.loop-part.found.items c.collect.new.found.items c.loop-part-test.true c.part-item.is
-    c.loop-part.invariant.found c.in_ok-collect.ensures.found;
+      adds_more (IsUnusedAt c.args.place) c.args.parts.now c.loop-part.part-index c.part-item.result c.args.found.now.items c.loop-part.found.items c.collect.new.found.items c.loop-part-test.true c.part-item.is
+      c.loop-part.invariant.found c.in_ok-collect.ensures.found;
 }
 
 three : {t : ℕ} → (c : goal.collect_list-After-leave t) → c.args.parts.now ≡ c.head-item.result ∷ c.names-item.result ∷ c.body-item.result ∷ []
@@ -48,13 +48,13 @@ collect_list-returns-in_ok-collect-in-len3-clause-found t c =
 -- a list that isn't a quantifier's
 unbound : {t : ℕ} → (c : goal.collect_list-After-collect_all t) → bound c.args.parts.now ≡ []
 unbound c = elim c.in_default.branch [
-    collect_list-in_default-via-then-parts-lt3 w ↦ bound_short c.args.parts.now (omega (arith, ltb-true))
+  | collect_list-in_default-via-then-parts-lt3 w ↦ bound_short c.args.parts.now (omega (arith, ltb-true))
   | collect_list-in_default-via-in-len3+else-quantifies w ↦
-    bound_of_three c.args.parts.now w.head-item.result w.names-item.result w.body-item.result
-    (three_items c.args.parts.now w.head-item.result w.names-item.result w.body-item.result w.in-len3.len_at_least w.in-len3.len_below w.head-item.is w.names-item.is w.body-item.is)
-    (sym w.quantifies.ensures ∙ w.if-quantifies.false)
+      bound_of_three c.args.parts.now w.head-item.result w.names-item.result w.body-item.result
+      (three_items c.args.parts.now w.head-item.result w.names-item.result w.body-item.result w.in-len3.len_at_least w.in-len3.len_below w.head-item.is w.names-item.is w.body-item.is)
+      (sym w.quantifies.ensures ∙ w.if-quantifies.false)
   | collect_list-in_default-via-else-parts-lt3+else-parts-lt4 w ↦ bound_long c.args.parts.now (omega (arith, ltb-false))
-  ]
+]
 
 pub collect_list-returns-in_default-clause-free : goal.collect_list-returns-in_default-clause-free
 collect_list-returns-in_default-clause-free t c = free_of_plain c.collect_all.result c.args.parts.now c.args.free.now c.collect_all.new.free (unbound c) c.collect_all.ensures.free
