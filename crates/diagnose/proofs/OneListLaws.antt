@@ -1,12 +1,11 @@
 -- Forms have one list of diagnostics.
-use Rattle.std.proofs.Common.{◌≡◌, ℕ, ◌+◌, ◌<◌, ◌≤◌, ◌⊎◌, ◌↔◌, zero, suc, List, [], ◌∷◌, ◌++◌, length, refl, sym, ap, ap₂, subst, ◌∙◌, inl, inr, arith}
+use Rattle.std.proofs.Common.{◌≡◌, ℕ, ◌+◌, ◌<◌, ◌⊎◌, zero, suc, List, [], ◌∷◌, ◌++◌, length, refl, sym, ap, ap₂, subst, ◌∙◌, inl, inr, arith}
 use Rattle.std.specs.Prelude.{Option, Some, None, Contains, slice_get}
 use Rattle.std.specs.Cmp.{ranks}
-use Rattle.std.specs.Cmp.Lexicographic.{slice_cmp, nat_list_cmp_total}
+use Rattle.std.specs.Cmp.Lexicographic.{nat_list_cmp_total}
 use Rattle.std.specs.Ordering.{nat_cmp, ordering_reverse, MatchOrdering}
 use Rattle.std.specs.declared.cmp.Ordering.{Ordering}
 use Rattle.std.specs.declared.cmp.Ordering.TheVariants.{Less, Equal, Greater}
-use Rattle.sigma_base.specs.Lists.{Each}
 use Rattle.kif_tree.specs.declared.place.Located.{Located}
 use Rattle.kif_tree.specs.declared.place.Place.{Place}
 use Rattle.kif_tree.specs.Terms.{Bytes}
@@ -15,7 +14,7 @@ use Rattle.taxonomy.proofs.ChainLaws.{contains_head, contains_tail}
 use Rattle.taxonomy.proofs.GraphLaws.{each_in}
 use Rattle.signatures.specs.Nearest.{IsBefore}
 use Rattle.diagnose.specs.declared.diagnostic.Diagnostic.{Diagnostic}
-use Rattle.diagnose.specs.Diagnostics.{StandsBefore, OtherBefore, ComesBefore, AreAscending, AreDiagnostics}
+use Rattle.diagnose.specs.Diagnostics.{StandsBefore, OtherBefore, ComesBefore, AreAscending}
 use Rattle.diagnose.specs.Laws.{OneList}
 use Rattle.diagnose.proofs.OrderLaws.{differ_at}
 

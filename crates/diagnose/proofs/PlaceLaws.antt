@@ -1,12 +1,11 @@
 -- Where what forms tell stands.
-use Rattle.std.proofs.Common.{◌≡◌, ℕ, ◌⊎◌, ◌||◌, ◌&&◌, List, [], ◌∷◌, ◌++◌, Bool, true, false, if◌then◌else◌, refl, sym, ap, ap₂, subst, ◌∙◌, inl, inr, nat_eq, arith, ◌<◌, ◌≤◌, ◌+◌}
+use Rattle.std.proofs.Common.{◌≡◌, ℕ, ◌||◌, ◌&&◌, List, [], ◌∷◌, Bool, true, false, if◌then◌else◌, refl, sym, ap, ap₂, subst, ◌∙◌, inl, inr, nat_eq, arith}
 use Rattle.std.specs.Prelude.{Option, Some, None, Contains, codes}
-use Rattle.std.specs.List.{list_any, filter_map}
-use Rattle.std.specs.Option.{option_map}
+use Rattle.std.specs.List.{list_any}
 use Rattle.std.specs.Str.{bytes_eq}
 use Rattle.std.proofs.lemmas.List.Elements.{Contains-append_right}
 use Rattle.std.proofs.lemmas.Slice.Eq.{bytes_eq-Decides}
-use Rattle.kif_tree.specs.Clauses.{is_headed, heads_layer, begins_with, is_word}
+use Rattle.kif_tree.specs.Clauses.{is_headed, heads_layer, is_word}
 use Rattle.kif_tree.specs.declared.form.Form.{Form, out-Form}
 use Rattle.kif_tree.specs.declared.form.Form.TheOpen.{Form-F}
 use Rattle.kif_tree.specs.declared.place.Located.{Located}
@@ -15,7 +14,7 @@ use Rattle.kif_tree.specs.Terms.{Bytes}
 use Rattle.taxonomy.specs.declared.told.ChainKind.{ChainKind}
 use Rattle.taxonomy.specs.declared.told.ChainKind.TheVariants as kinds
 use Rattle.taxonomy.specs.declared.told.Told.{Told}
-use Rattle.taxonomy.specs.Chains.{parents, as_told}
+use Rattle.taxonomy.specs.Chains.{parents}
 use Rattle.taxonomy.specs.Disjoint.{AreDisjointBy}
 use Rattle.taxonomy.specs.Told.{word_layer, word_text, text_before, word_texts, parts_layer, parts_of, told_words, kind_of, link_of_kind, link_of_words, told_link, Link, links, parts_a_whole, disjoint_of_words, told_disjoint, DisjointWords, told_taxonomy, argument_of, argument_of_parts, told_argument, ToldArgument, short_number, arguments}
 use Rattle.taxonomy.proofs.ChainLaws.{contains_head, in_parents}
@@ -24,7 +23,7 @@ use Rattle.signatures.specs.Relations.{is_shown}
 use Rattle.signatures.specs.Types.{type_in, type_told, tells_subclass, own_types, AreTypes}
 use Rattle.signatures.specs.declared.told.TypeTold.{TypeTold}
 use Rattle.diagnose.specs.Order.{IsFormPlace}
-use Rattle.diagnose.proofs.StandLaws.{IsOn, Tells, picked, told_by}
+use Rattle.diagnose.proofs.StandLaws.{IsOn, picked, told_by}
 
 -- ---- told links aren't only shown
 
@@ -74,9 +73,9 @@ not_shown_head head kind e = go (bytes_eq head (codes "instance")) refl (bytes_e
     go false h false i true j e = is (codes "subrelation") j refl
     go false h false i false j e =
         let none : kind_of head ≡ None =
-            ap (λ x. if x then Some kinds.Instance else if bytes_eq head (codes "subclass") then Some kinds.Class else if bytes_eq head (codes "subrelation") then Some kinds.Relation else None) h
-            ∙ ap (λ x. if x then Some kinds.Class else if bytes_eq head (codes "subrelation") then Some kinds.Relation else None) i
-            ∙ ap (λ x. if x then Some kinds.Relation else None) j in
+        ap (λ x. if x then Some kinds.Instance else if bytes_eq head (codes "subclass") then Some kinds.Class else if bytes_eq head (codes "subrelation") then Some kinds.Relation else None) h
+        ∙ ap (λ x. if x then Some kinds.Class else if bytes_eq head (codes "subrelation") then Some kinds.Relation else None) i
+        ∙ ap (λ x. if x then Some kinds.Relation else None) j in
         absurd (cc)
 
 record LinkWords (located : Located) (link : Link) : Type 0 where

@@ -1,22 +1,21 @@
 -- All diagnostics of forms, form by form.
-use Rattle.std.proofs.Common.{◌≡◌, ℕ, ◌+◌, ◌<◌, ◌≤◌, ◌⊎◌, ◌↔◌, ◌||◌, ◌&&◌, not, zero, suc, List, [], ◌∷◌, ◌++◌, length, get_or, take, drop, Bool, true, false, refl, sym, ap, ap₂, subst, ◌∙◌, inl, inr, arith}
-use Rattle.std.specs.Prelude.{Option, Some, None, Contains}
+use Rattle.std.proofs.Common.{◌≡◌, ℕ, ◌+◌, ◌<◌, ◌⊎◌, ◌↔◌, ◌||◌, ◌&&◌, not, zero, suc, List, [], ◌∷◌, ◌++◌, length, get_or, take, drop, Bool, true, false, refl, sym, ap, subst, ◌∙◌, inl, inr, arith}
+use Rattle.std.specs.Prelude.{Option, None, Contains}
 use Rattle.std.specs.List.{list_any}
 use Rattle.std.proofs.lemmas.List.Elements.{Contains-append_left, Contains-append_right, Contains-append_cases}
 use Rattle.std.proofs.lemmas.List.{take-append-drop, take_more}
-use Rattle.sigma_base.specs.Lists.{Each, each_append, each_map}
+use Rattle.sigma_base.specs.Lists.{Each, each_append}
 use Rattle.kif_tree.specs.declared.form.Form.{Form}
 use Rattle.kif_tree.specs.declared.place.Located.{Located}
 use Rattle.kif_tree.specs.declared.place.Place.{Place}
 use Rattle.kif_tree.specs.Terms.{Bytes}
 use Rattle.kif_tree.specs.Places.{PlacesDiffer}
-use Rattle.kif_tree.specs.Shape.{is_among, has_word}
+use Rattle.kif_tree.specs.Shape.{has_word}
 use Rattle.taxonomy.proofs.ChainLaws.{contains_head, contains_tail}
-use Rattle.taxonomy.proofs.GraphLaws.{each_in}
 use Rattle.signatures.specs.Relations.{is_shown, is_snapshot_word}
 use Rattle.diagnose.specs.declared.diagnostic.Diagnostic.{Diagnostic}
 use Rattle.diagnose.specs.Found.{Adds}
-use Rattle.diagnose.specs.Diagnostics.{IsOfWord, IsOfArguments, IsOfVariables, IsOfForm, IsInForm, IsDiagnostic, StandsBefore, ComesBefore, AreAscending, AreDiagnostics}
+use Rattle.diagnose.specs.Diagnostics.{IsOfWord, IsOfArguments, IsOfVariables, IsOfForm, IsDiagnostic, StandsBefore, ComesBefore, AreAscending, AreDiagnostics}
 use Rattle.diagnose.specs.Order.{IsFormPlace, AreKnown, Appends}
 use Rattle.diagnose.specs.SoFar.{IsAt, HasPlace, AreSoFar}
 use Rattle.diagnose.specs.WordTables.{AreSeen}

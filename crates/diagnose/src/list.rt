@@ -102,14 +102,7 @@ fn add_form(
         return Ok(());
     }
     let found = found_at(alloc, located, taxonomy, signatures, tables, seen)?;
-    append_ordered(
-        alloc,
-        forms,
-        &tables.positions,
-        located.place,
-        found,
-        list,
-    )?;
+    append_ordered(alloc, forms, &tables.positions, located.place, found, list)?;
     Ok(())
 }
 

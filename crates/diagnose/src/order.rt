@@ -73,7 +73,10 @@ fn ranks(
     let mut ranks = BTreeSet::new(alloc);
     for diagnostic in found {
         let Diagnostic {
-            code, term, other, ..
+            code,
+            term,
+            other,
+            ..
         } = diagnostic;
         let other = position_of(positions, other);
         add_rank(&mut ranks, Rank { code, term, other })?;

@@ -15,7 +15,7 @@ pub returns : goal.returns
 returns c = λ before after stand differ tables so_far.
     let shown = sym c.is_shown.ensures ∙ c.if-is_shown.false in
     let are : (d : Diagnostic) → Contains c.in_ok-found.found.items d ↔ IsAt c.args.forms.now c.args.located.now d =
-        subst (λ (fs : List Located). PlacesDiffer fs → AreTables fs c.args.taxonomy.now c.args.signatures.now c.args.tables.now → (d : Diagnostic) → Contains c.in_ok-found.found.items d ↔ IsAt fs c.args.located.now d) (sym stand)
-        (λ differ tables. c.in_ok-found.ensures.found before after differ shown tables so_far.words) differ tables in
+    subst (λ (fs : List Located). PlacesDiffer fs → AreTables fs c.args.taxonomy.now c.args.signatures.now c.args.tables.now → (d : Diagnostic) → Contains c.in_ok-found.found.items d ↔ IsAt fs c.args.located.now d) (sym stand)
+    (λ differ tables. c.in_ok-found.ensures.found before after differ shown tables so_far.words) differ tables in
     one_more c.args.forms.now before c.args.located.now after c.args.seen.now c.found_at.new.seen c.in_ok-found.found.items c.args.list.now.items c.append_ordered.new.list.items stand differ shown so_far
     (c.in_ok-found.ensures.words before so_far.words shown) are (c.in_ok-append_ordered.ensures tables.positions (more_known c.args.forms.now c.args.located.now c.in_ok-found.found.items are))

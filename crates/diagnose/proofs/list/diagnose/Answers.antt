@@ -2,7 +2,7 @@ use Rattle.std.proofs.Common.{List, sym, subst, take}
 use Rattle.std.proofs.lemmas.List.{take_all}
 use Rattle.kif_tree.specs.declared.place.Located.{Located}
 use Rattle.diagnose.specs.SoFar.{AreSoFar}
-use Rattle.diagnose.proofs.WholeLaws.{none_so_far, all_so_far, one_taken}
+use Rattle.diagnose.proofs.WholeLaws.{all_so_far, one_taken}
 use Rattle.diagnose.proofs.list.diagnose.Goals as goal
 
 pub loop-located-preserved : goal.loop-located-preserved

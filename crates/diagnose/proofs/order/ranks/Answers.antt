@@ -1,5 +1,3 @@
-use Rattle.std.proofs.Common.{ap}
-use Rattle.std.specs.Prelude.{Option}
 use Rattle.diagnose.proofs.OrderLaws.{ranks_of_more}
 use Rattle.diagnose.proofs.order.ranks.Goals as goal
 

@@ -1,4 +1,3 @@
-
 use Rattle.diagnose.specs.Order.{AreRanks}
 use Rattle.diagnose.proofs.order.ranks.Given as goal
 
