@@ -94,7 +94,7 @@ fn check(rt: &impl Abort, alloc: Global, run: &Run) -> Result<(), NoMemory> {
     Ok(())
 }
 
-pub fn check_all(rt: &impl Abort, alloc: Global, runs: &[Run]) -> Result<(), NoMemory> {
+pub(crate) fn check_all(rt: &impl Abort, alloc: Global, runs: &[Run]) -> Result<(), NoMemory> {
     for run in runs {
         check(rt, alloc, run)?;
     }
@@ -492,7 +492,7 @@ fn name_of(alloc: Global, number: u64) -> Result<Text, NoMemory> {
 }
 
 /// What comes of the words before the paths of files that hold so many spaces each.
-pub fn over_spaces(
+pub(crate) fn over_spaces(
     rt: &impl Abort,
     alloc: Global,
     before: &[&str],
