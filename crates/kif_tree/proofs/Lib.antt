@@ -1,6 +1,5 @@
 pub mod ClauseLaws
 pub mod HeadLaws
-pub mod NameLaws
 pub mod PrintLaws
 pub mod ProfileLaws
 pub mod ShapeLaws

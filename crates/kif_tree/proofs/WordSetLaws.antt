@@ -1,7 +1,6 @@
 -- Words of a set, as its keys change.
 use Rattle.std.proofs.Common.{◌≡◌, ℕ, List, [], ◌∷◌, ◌||◌, ◌&&◌, not, map, Bool, true, false, cond, refl, sym, ap, ap₂, subst, ◌∙◌}
-use Rattle.std.specs.BTreeSet.{BTreeSet, insert_key, contains_by}
-use Rattle.std.specs.BTreeMap.{is_at}
+use Rattle.std.specs.BTreeSet.{insert_key}
 use Rattle.std.specs.Cmp.Lexicographic.{slice_cmp}
 use Rattle.std.specs.List.{list_any}
 use Rattle.std.specs.Ordering.{nat_cmp, is_eq, match_ordering}
@@ -16,7 +15,6 @@ use Rattle.std.proofs.lemmas.Map.Lookups.{exact_bytes}
 use Rattle.std.proofs.lemmas.Slice.Eq.{bytes_eq-Decides}
 use Rattle.kif_tree.specs.Shape.{is_among}
 use Rattle.kif_tree.specs.Terms.{Bytes}
-use Rattle.kif_tree.specs.WordSets.{texts}
 
 abbrev pub Key : Type 0
 Key = Vec ℕ Global

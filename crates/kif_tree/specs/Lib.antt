@@ -1,6 +1,8 @@
 pub mod Clauses
+pub mod CompoundLaws
 pub mod FormLaws
 pub mod Laws
+pub mod NameLaws
 pub mod Names
 pub mod Places
 pub mod Printed

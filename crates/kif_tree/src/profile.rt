@@ -7,7 +7,7 @@ ghost use Rattle.kif_tree.specs.Profile as spec;
 
 use crate::equal::forms_equal;
 use crate::form::Form;
-use crate::shape::{binds, is_quantifier, is_quantifying, lists_names};
+use crate::names::{bound, is_function_word, is_logical_word, operands};
 
 /// Whether the form is in the profile, where it stands at the top of a text. It takes no memory. Each list headed by a
 /// variable is compared with each name of the quantifiers around it: without memory no faster way is known.
@@ -111,12 +111,6 @@ fn names_function(parts: &[Form]) -> bool
     }
 }
 
-fn is_function_word(word: &[u8]) -> bool
-    ensures { result ≡ names.is_function_word word.now }
-{
-    word.ends_with(b"Fn")
-}
-
 fn is_logical(parts: &[Form]) -> bool
     ensures { result ≡ spec.is_logical parts.now }
 {
@@ -126,43 +120,7 @@ fn is_logical(parts: &[Form]) -> bool
     }
 }
 
-fn is_logical_word(word: &[u8]) -> bool
-    ensures { result ≡ shape.is_among shape.logical_words word.now }
-{
-    word == b"not".as_slice()
-        || word == b"and".as_slice()
-        || word == b"or".as_slice()
-        || word == b"=>".as_slice()
-        || word == b"<=>".as_slice()
-        || is_quantifying(word)
-}
-
-// the parts after the head, without the variable list of a quantifier
-fn operands(parts: &[Form]) -> &[Form]
-    ensures { result.now ≡ spec.operands parts.now }
-{
-    let [head, arguments @ ..] = parts else {
-        return parts;
-    };
-    if is_quantifier(head) && binds(arguments) {
-        return &arguments[1..];
-    }
-    arguments
-}
-
 // ---- what a quantifier lists
-
-fn bound(parts: &[Form]) -> &[Form]
-    ensures { result.now ≡ names.bound parts.now }
-{
-    let [head, names, _] = parts else {
-        return &parts[..0];
-    };
-    match names {
-        Form::List(names) if is_quantifier(head) && lists_names(names.items()) => names.items(),
-        _ => &parts[..0],
-    }
-}
 
 fn lists_row(parts: &[Form]) -> bool
     ensures { result ≡ spec.lists_row parts.now }

@@ -160,7 +160,8 @@ pub(crate) fn is_quantifying(word: &[u8]) -> bool
     word == b"forall".as_slice() || word == b"exists".as_slice()
 }
 
-pub(crate) fn is_quantifier(head: &Form) -> bool
+/// Whether the form is the word `forall` or `exists`. It takes no memory.
+pub fn is_quantifier(head: &Form) -> bool
     ensures { result ≡ spec.is_quantifier head.now }
 {
     match head {
@@ -181,7 +182,8 @@ pub(crate) fn binds(arguments: &[Form]) -> bool
     }
 }
 
-pub(crate) fn lists_names(parts: &[Form]) -> bool
+/// Whether all parts are variables or row variables. It takes no memory.
+pub fn lists_names(parts: &[Form]) -> bool
     ensures { result ≡ spec.lists_names parts.now }
 {
     for part in parts {
