@@ -40,6 +40,15 @@ free_step (Form-F.List parts) = filter (is_other (bound (map (λ (part : Form ×
 unfoldable pub free : Form → List Form
 free = para-Form (List Form) free_step
 
+-- each form once, at its first place
+abbrev pub each_once : List Form → List Form
+each_once [] = []
+each_once (f ∷ fs) = f ∷ filter (λ other. not (same f other)) (each_once fs)
+
+-- the variables and row variables that are free, in order of their first free occurrence
+abbrev pub free_names : Form → List Form
+free_names f = each_once (free f)
+
 abbrev pub lists_step : Form-F (Form × List (List Form)) → List (List Form)
 lists_step (Form-F.Word text) = []
 lists_step (Form-F.Variable text) = []

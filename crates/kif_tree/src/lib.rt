@@ -4,6 +4,7 @@
 mod clause;
 mod equal;
 mod form;
+mod free;
 mod heads;
 mod laws;
 mod names;
@@ -23,6 +24,7 @@ mod word_set;
 pub use clause::{Clause, InputClause, Literal};
 pub use equal::{forms_equal, literals_equal};
 pub use form::{Form, Forms, copy_all};
+pub use free::free_names;
 pub use heads::{is_answer, is_headed};
 pub use laws::{agreement_law, composition_law, equality_law, ground_law};
 pub use names::{bound, is_function_word, is_logical_word, operands, parts_of};

@@ -1,0 +1,5 @@
+pub mod Choices
+pub mod Conditions
+pub mod Expansion
+pub mod Fitting
+pub mod Replacement
