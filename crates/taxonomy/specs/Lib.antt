@@ -1,3 +1,4 @@
+pub mod ChainDecision
 pub mod Chains
 pub mod Disjoint
 pub mod Told
