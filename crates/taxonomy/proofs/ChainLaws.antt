@@ -1,8 +1,6 @@
 -- Chains of words against paths of numbers.
 use Rattle.std.proofs.Common.{◌≡◌, ◌≢◌, ℕ, suc, zero, ◌<◌, ◌⊎◌, List, [], ◌∷◌, ◌++◌, map, filter, length, get_or, take, drop, Bool, true, false, if◌then◌else◌, not, refl, sym, ap, subst, ◌∙◌, arith, inl, inr}
 use Rattle.std.specs.Prelude.{Contains, MatchBool, Option, Some, None}
-use Rattle.std.specs.declared.alloc.Global.{Global}
-use Rattle.std.specs.declared.vec.Vec.{Vec}
 use Rattle.std.specs.Str.{bytes_eq}
 use Rattle.std.proofs.Math.Seq.{split_at}
 use Rattle.std.proofs.lemmas.Bool.{cases_order}
@@ -21,7 +19,6 @@ use Rattle.taxonomy.specs.declared.told.Told.{Told}
 use Rattle.taxonomy.specs.Chains.{Joins, OfKind, IsChain, Chain, later_kind, parents, as_told, IsAtOrAbove}
 use Rattle.taxonomy.specs.Disjoint.{Separates, AreNotDisjoint, AreDisjointBy}
 use Rattle.taxonomy.specs.Graph.{Follows, Path}
-use Rattle.taxonomy.specs.Names.{AreNumbered, number_of}
 use Rattle.taxonomy.specs.Numbered.{word, named, named_group, AreBelow, LinksWithin, GroupsWithin}
 use Rattle.taxonomy.specs.Runs.{has}
 use Rattle.taxonomy.specs.Starts.{IsShared}
@@ -47,15 +44,6 @@ pub map_in : {X Y : Type 0} (f : X → Y) (xs : List X) (x : X) → Contains xs 
 map_in f [] x (k, lt, is) = absurd (omega arith)
 map_in f (y ∷ xs) x (zero, lt, is) = (0, omega arith, ap f is)
 map_in f (y ∷ xs) x (suc k, lt, is) = contains_tail (f y) (map f xs) (f x) (map_in f xs x (k, omega arith, is))
-
--- ---- distinct words
-
-pub distinct_words : (numbers : List (Vec ℕ Global × ℕ)) (words : List Bytes) → AreNumbered numbers words → AreDistinct words
-distinct_words numbers words h = λ n m lt below same.
-    let first = h.known n lt in
-    let second = h.known m below in
-    let both : Some n ≡ Some m = sym first ∙ (ap (number_of numbers) same ∙ second) in
-    cc
 
 -- ---- rows
 

@@ -83,7 +83,7 @@ pub record AreSelfStarts (count : ℕ) (links : List NumberedLink) (groups : Lis
 
 -- what the tables hold goes together
 pub record AreTables (tables : Tables) : Type 0 where
-  pub numbered : AreNumbered tables.names.numbers.entries tables.names.words.items
+  pub numbered : AreNumbered tables.names.keys.entries tables.names.places.items tables.names.words.items
   pub links : LinksWithin (length tables.names.words.items) tables.links.items
   pub groups : GroupsWithin (length tables.names.words.items) tables.groups.items
   pub rows : AreRows tables.names.words.items tables.links.items tables.rows.items

@@ -178,7 +178,7 @@ pub fn tables_of(
     links: Vec<NumberedLink>,
     groups: Vec<NumberedGroup>,
 ) -> Result<Tables, NoMemory>
-    requires names { AreNumbered names.numbers.entries names.words.items }
+    requires names { AreNumbered names.keys.entries names.places.items names.words.items }
     requires links { numbered.LinksWithin (length names.words.items) links.items }
     requires groups { numbered.GroupsWithin (length names.words.items) groups.items }
     ensures tables { IfOk result (λ tables. spec.AreTables tables) }
