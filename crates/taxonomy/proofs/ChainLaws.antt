@@ -1,12 +1,10 @@
 -- Chains of words against paths of numbers.
 use Rattle.std.proofs.Common.{◌≡◌, ◌≢◌, ℕ, suc, zero, ◌<◌, ◌⊎◌, List, [], ◌∷◌, ◌++◌, map, filter, length, get_or, take, drop, Bool, true, false, if◌then◌else◌, not, refl, sym, ap, subst, ◌∙◌, arith, inl, inr}
 use Rattle.std.specs.Prelude.{Contains, MatchBool, Option, Some, None}
-use Rattle.std.specs.declared.alloc.Global.{Global}
-use Rattle.std.specs.declared.vec.Vec.{Vec}
 use Rattle.std.specs.Str.{bytes_eq}
 use Rattle.std.proofs.Math.Seq.{split_at}
 use Rattle.std.proofs.lemmas.Bool.{cases_order}
-use Rattle.std.proofs.lemmas.List.{get_or_read, map-append}
+use Rattle.std.proofs.lemmas.List.{map-append}
 use Rattle.std.proofs.lemmas.Slice.Eq.{bytes_eq-Decides}
 use Rattle.kif_tree.specs.Terms.{Bytes}
 use Rattle.sigma_base.specs.Lists.{Each}
@@ -20,14 +18,13 @@ use Rattle.taxonomy.specs.declared.told.ChainKind.TheVariants as kinds
 use Rattle.taxonomy.specs.declared.told.Told.{Told}
 use Rattle.taxonomy.specs.Chains.{Joins, OfKind, IsChain, Chain, later_kind, parents, as_told, IsAtOrAbove}
 use Rattle.taxonomy.specs.Disjoint.{Separates, AreNotDisjoint, AreDisjointBy}
-use Rattle.taxonomy.specs.Graph.{Follows, Path}
-use Rattle.taxonomy.specs.Names.{AreNumbered, number_of}
+use Rattle.taxonomy.specs.Graph.{Follows, Path, at_or_below}
 use Rattle.taxonomy.specs.Numbered.{word, named, named_group, AreBelow, LinksWithin, GroupsWithin}
 use Rattle.taxonomy.specs.Runs.{has}
 use Rattle.taxonomy.specs.Starts.{IsShared}
 use Rattle.taxonomy.specs.Tables.{edge_of, AreEdges, HasEdges, AreDistinct, AreSets, AreSelfStarts, Passes, IsOther}
 use Rattle.taxonomy.specs.Told.{Link, DisjointWords}
-use Rattle.taxonomy.proofs.GraphLaws.{each_in, path_none}
+use Rattle.taxonomy.proofs.GraphLaws.{each_in, path_none, below_sound, below_complete}
 use Rattle.taxonomy.proofs.NameLaws.{contains_word}
 
 -- ---- lists
@@ -47,15 +44,6 @@ pub map_in : {X Y : Type 0} (f : X → Y) (xs : List X) (x : X) → Contains xs 
 map_in f [] x (k, lt, is) = absurd (omega arith)
 map_in f (y ∷ xs) x (zero, lt, is) = (0, omega arith, ap f is)
 map_in f (y ∷ xs) x (suc k, lt, is) = contains_tail (f y) (map f xs) (f x) (map_in f xs x (k, omega arith, is))
-
--- ---- distinct words
-
-pub distinct_words : (numbers : List (Vec ℕ Global × ℕ)) (words : List Bytes) → AreNumbered numbers words → AreDistinct words
-distinct_words numbers words h = λ n m lt below same.
-    let first = h.known n lt in
-    let second = h.known m below in
-    let both : Some n ≡ Some m = sym first ∙ (ap (number_of numbers) same ∙ second) in
-    cc
 
 -- ---- rows
 
@@ -131,22 +119,19 @@ chain_of_path words links kind edges are (edge ∷ path) n high told follows =
 
 -- ---- the readers' answers
 
-pub reaches_is : (words : List Bytes) (links : List NumberedLink) (kind : ChainKind) (sets : List (List Run)) (runs : List Run) (low high : ℕ) (text : Bytes) (b : Bool) → LinksWithin (length words) links → AreDistinct words
-    → AreSets kind (length words) links sets → low < length words → word words low ≡ text → high < length words → runs ≡ get_or sets high runs → b ≡ has runs low
+pub reaches_is : (words : List Bytes) (links : List NumberedLink) (kind : ChainKind) (sets : List (List Run)) (low high : ℕ) (text : Bytes) (b : Bool) → LinksWithin (length words) links → AreDistinct words
+    → AreSets kind (length words) links sets → low < length words → word words low ≡ text → high < length words → b ≡ has (at_or_below sets high) low
     → MatchBool b (Passes (map (named words) links) kind text (word words high)) (Passes (map (named words) links) kind text (word words high) → ⊥)
-reaches_is words links kind sets runs low high text b within distinct s lt is below row e =
+reaches_is words links kind sets low high text b within distinct s lt is below e =
     subst (λ (t : Bytes). MatchBool b (Passes (map (named words) links) kind t (word words high)) (Passes (map (named words) links) kind t (word words high) → ⊥)) is (go b e)
   where
-    at_row : runs ≡ get_or sets high []
-    at_row = get_or_read sets high runs (omega (arith, s.closed.long, below)) row []
-
-    go : (b : Bool) → b ≡ has runs low → MatchBool b (Passes (map (named words) links) kind (word words low) (word words high)) (Passes (map (named words) links) kind (word words low) (word words high) → ⊥)
+    go : (b : Bool) → b ≡ has (at_or_below sets high) low → MatchBool b (Passes (map (named words) links) kind (word words low) (word words high)) (Passes (map (named words) links) kind (word words low) (word words high) → ⊥)
     go true e =
-        let p = s.closed.sound low high (ap (λ (x : List Run). has x low) (sym at_row) ∙ sym e) in
+        let p = below_sound s.edges (length words) sets low high s.closed (sym e) in
         chain_of_path words links kind s.edges s.are p.path low high p.among p.follows
     go false e = λ passes.
         let p = path_of_chain words links kind s.edges s.are.all within distinct passes.chain passes.told passes.are low high lt below passes.joins in
-        let no_way : false ≡ true = e ∙ (ap (λ (x : List Run). has x low) at_row ∙ s.closed.complete low high lt p) in
+        let no_way : false ≡ true = e ∙ below_complete s.edges (length words) sets low high s.closed p in
         absurd (cc)
 
 low_among : (words : List Bytes) (links : List NumberedLink) (link : Link) → LinksWithin (length words) links → Contains (map (named words) links) link → Contains words link.low × Contains words link.high
@@ -340,9 +325,9 @@ none_before words links groups starts n text within inside distinct s lt is =
         numbers : AreBelow (length words) group.words
         numbers = each_in (λ (g : NumberedGroup). AreBelow (length words) g.words) groups group (i, below, sym there) inside
 
-        path : (k : ℕ) (above : Bytes) → Contains group.words k → word words k ≡ above → IsAtOrAbove (map (named words) links) (word words n) above → has (get_or s.sets k []) n ≡ true
+        path : (k : ℕ) (above : Bytes) → Contains group.words k → word words k ≡ above → IsAtOrAbove (map (named words) links) (word words n) above → has (at_or_below s.sets k) n ≡ true
         path k above among same h =
-            s.closed.complete n k lt
+            below_complete s.edges (length words) s.sets n k s.closed
             (path_above words links s.edges s.classes s.instances within distinct n k lt (each_in (λ (m : ℕ). m < length words) group.words k among numbers)
             (subst (IsAtOrAbove (map (named words) links) (word words n)) (sym same) h))
 

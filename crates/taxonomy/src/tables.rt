@@ -8,10 +8,10 @@ ghost use Rattle.taxonomy.specs.Numbered as numbered;
 ghost use Rattle.taxonomy.specs.Tables as spec;
 ghost use Rattle.taxonomy.specs.declared.told.ChainKind.TheVariants as kinds;
 
-use crate::closure::{Edge, closure};
+use crate::closure::{Edge, closure, is_at_or_below};
 use crate::names::Names;
 use crate::numbered::{NumberedGroup, NumberedLink};
-use crate::runs::{Runs, has};
+use crate::runs::Runs;
 use crate::starts::starts_of;
 use crate::told::{ChainKind, Told};
 use kif_tree::{Place, Text};
@@ -26,11 +26,11 @@ pub struct Tables {
     pub groups: Vec<NumberedGroup>,
     /// For each word what the links tell of it.
     pub rows: Vec<Listed<Told>>,
-    /// For each word itself and the words from which chains of `subclass` lead to it.
+    /// For each word the words from which chains of `subclass` lead to it.
     pub classes: Vec<Runs>,
     /// The same with `subrelation`.
     pub relations: Vec<Runs>,
-    /// For each word a number of groups, none of which separates it from itself.
+    /// For each word a number of groups, none of which separates it from itself. Empty where there are no groups.
     pub starts: Vec<usize>,
 }
 
@@ -123,7 +123,7 @@ pub fn rows_of(
     Ok(rows)
 }
 
-/// For each word the words from which links of the kind lead to it, and itself.
+/// For each word the words from which links of the kind lead to it.
 fn sets_of(
     alloc: Global,
     count: usize,
@@ -163,8 +163,11 @@ fn self_starts(
 ) -> Result<Vec<usize>, NoMemory>
     requires links { numbered.LinksWithin count links.now }
     requires groups { numbered.GroupsWithin count groups.now }
-    ensures { IfOk result (λ starts. spec.AreSelfStarts count links.now groups.now starts.items) }
+    ensures { IfOk result (λ starts. 0 < length starts.items → spec.AreSelfStarts count links.now groups.now starts.items) }
 {
+    if groups.is_empty() {
+        return Ok(Vec::new(alloc));
+    }
     let edges = upward_edges(alloc, count, links)?;
     let sets = closure(alloc, count, edges.as_slice())?;
     let starts = starts_of(alloc, count, sets.as_slice(), groups)?;
@@ -178,7 +181,7 @@ pub fn tables_of(
     links: Vec<NumberedLink>,
     groups: Vec<NumberedGroup>,
 ) -> Result<Tables, NoMemory>
-    requires names { AreNumbered names.numbers.entries names.words.items }
+    requires names { AreNumbered names.keys.entries names.places.items names.words.items }
     requires links { numbered.LinksWithin (length names.words.items) links.items }
     requires groups { numbered.GroupsWithin (length names.words.items) groups.items }
     ensures tables { IfOk result (λ tables. spec.AreTables tables) }
@@ -252,8 +255,7 @@ impl Tables {
         let Some(low) = self.names.number(word) else {
             return false;
         };
-        let sets = self.sets(kind);
-        has(sets[high].items(), low)
+        is_at_or_below(self.sets(kind), low, high)
     }
 
     /// Whether a chain leads from the word to that of the number.

@@ -1,7 +1,8 @@
 use Rattle.std.proofs.Common.{◌≡◌, ◌<◌, ℕ, List, length, get_or, subst, sym, arith}
 use Rattle.std.proofs.lemmas.List.{get_or_read}
 use Rattle.taxonomy.specs.Tables.{NoneSeparates}
-use Rattle.taxonomy.proofs.ChainLaws.{none_before, none_unknown, same_bytes, distinct_words}
+use Rattle.taxonomy.proofs.ChainLaws.{none_before, none_unknown, same_bytes}
+use Rattle.taxonomy.proofs.NameLaws.{distinct_words}
 use Rattle.taxonomy.proofs.tables.Tables.start.Goals as goal
 
 pub returns : goal.returns
@@ -12,7 +13,7 @@ returns c =
     subst (λ (second : List ℕ). NoneSeparates tables c.index.result.now c.args.first.now second) (same_bytes c.args.first.now c.args.second.now c.if-ne.ensures)
     (subst (λ (many : ℕ). NoneSeparates tables many c.args.first.now c.args.first.now) (sym read)
     (none_before tables.names.words.items tables.links.items tables.groups.items tables.starts.items c.in-Some.number c.args.first.now c.requires.links c.requires.groups
-    (distinct_words tables.names.numbers.entries tables.names.words.items c.requires.numbered) c.requires.starts c.in-Some.ensures.0 c.in-Some.ensures.1))
+    (distinct_words tables.names.keys.entries tables.names.places.items tables.names.words.items c.requires.numbered) (c.requires.starts (omega (arith, within))) c.in-Some.ensures.0 c.in-Some.ensures.1))
 
 pub returns-in_default : goal.returns-in_default
 returns-in_default c =
