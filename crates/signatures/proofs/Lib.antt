@@ -1,4 +1,9 @@
+pub mod WordLaws
+pub mod LowerLaws
 pub mod LayerLaws
+pub mod KeyLaws
+pub mod PassLaws
+pub mod NearestLaws
 pub mod SubjectLaws
 pub mod ArityLaws
 pub mod TableLaws

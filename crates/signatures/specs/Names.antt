@@ -1,5 +1,5 @@
 -- Relation names as the code tests them.
-use Rattle.std.specs.Prelude.{◌≡◌, Bool, not, ◌&&◌, ◌||◌}
+use Rattle.std.specs.Prelude.{◌≡◌, Bool, true, not, ◌&&◌, ◌||◌}
 use Rattle.kif_tree.specs.Shape.{is_among, logical_words, has_word}
 use Rattle.kif_tree.specs.declared.form.Form.{Form}
 use Rattle.kif_tree.specs.Terms.{Bytes}
@@ -14,13 +14,13 @@ use Rattle.signatures.specs.Tables.{arity_by}
 abbrev pub is_name : {S : Type 0} → Marks S → Inherited Arity → Bytes → Bool
 is_name heads arities word = not (is_among logical_words word) && (not (is_among shown_heads word) && (has heads word || is_stated (arity_by arities word)))
 
--- the found words are in their order just those that were seen
-abbrev pub IsPaired : Found → Type 0
-IsPaired found = (word : Bytes) → has found.seen word ≡ has_ordered found.ordered word
+-- of the words that were looked at the names are there
+abbrev pub HasNames : {S : Type 0} → Marks S → Inherited Arity → Found → Type 0
+HasNames heads arities found = (word : Bytes) → has found.seen word ≡ true → is_name heads arities word ≡ true → has_ordered found.ordered word ≡ true
 
 -- the names among the words that pass the test were added
 abbrev pub AddsNames : {S : Type 0} → Marks S → Inherited Arity → (Bytes → Bool) → Found → Found → Type 0
-AddsNames heads arities test old new = IsPaired old → IsPaired new × ((word : Bytes) → has_ordered new.ordered word ≡ (has_ordered old.ordered word || (is_name heads arities word && test word)))
+AddsNames heads arities test old new = HasNames heads arities old → HasNames heads arities new × ((word : Bytes) → has_ordered new.ordered word ≡ (has_ordered old.ordered word || (is_name heads arities word && test word)))
 
 -- the names among the words that pass the test
 abbrev pub AreNames : {S : Type 0} → Marks S → Inherited Arity → (Bytes → Bool) → OrderedMarks → Type 0

@@ -11,7 +11,7 @@ use crate::arities::{built_in, is_shown_head};
 use crate::inherited::Inherited;
 use crate::told::Arity;
 use crate::word_table::{WordTable, set};
-use kif_tree::{Form, Located, Text, is_headed};
+use kif_tree::{Form, Located, Text, is_headed, is_logical_word};
 use sigma_base::NoMemory;
 use std::alloc::Global;
 use std::collections::{BTreeMap, HashMap};
@@ -35,7 +35,7 @@ pub type Marks = WordTable<()>;
 /// A set of words in their order.
 pub type OrderedMarks = BTreeMap<Vec<u8>, ()>;
 
-/// Names that were found: a set to look in, and the same words in their order.
+/// Words that were looked at, and the names among them in their order.
 #[derive(Debug, Drop)]
 pub struct Found {
     seen: Marks,
@@ -88,8 +88,8 @@ fn mark_heads(alloc: Global, marks: &mut Marks, form: &Form) -> Result<(), NoMem
     Ok(())
 }
 
-/// Whether the form is only shown.
-fn is_shown(form: &Form) -> bool
+/// Whether the form is only shown: its head is `documentation`, `termFormat` or `format`. It takes no memory.
+pub fn is_shown(form: &Form) -> bool
     ensures { result ≡ relations.is_shown form.now }
 {
     is_headed(form, b"documentation")
@@ -108,18 +108,6 @@ pub fn heads(alloc: Global, forms: &[Located]) -> Result<Marks, NoMemory>
     Ok(marks)
 }
 
-fn is_logical(word: &[u8]) -> bool
-    ensures { result ≡ shape.is_among shape.logical_words word.now }
-{
-    word == b"not".as_slice()
-        || word == b"and".as_slice()
-        || word == b"or".as_slice()
-        || word == b"=>".as_slice()
-        || word == b"<=>".as_slice()
-        || word == b"forall".as_slice()
-        || word == b"exists".as_slice()
-}
-
 fn is_stated(arity: Arity) -> bool
     ensures { result ≡ spec.is_stated arity }
 {
@@ -133,7 +121,7 @@ fn is_stated(arity: Arity) -> bool
 fn is_name(heads: &Marks, arities: &Inherited<Arity>, word: &[u8]) -> bool
     ensures { result ≡ names.is_name heads.now arities.now word.now }
 {
-    if is_logical(word) {
+    if is_logical_word(word) {
         return false;
     }
     if is_shown_head(word) {
@@ -145,7 +133,7 @@ fn is_name(heads: &Marks, arities: &Inherited<Arity>, word: &[u8]) -> bool
     is_stated(arity_in(arities, word))
 }
 
-/// Adds the word, where it is a name and isn't there yet.
+/// Adds the word, where it is a name. Each word is looked at once.
 fn add_name(
     alloc: Global,
     found: &mut Found,
@@ -158,12 +146,11 @@ fn add_name(
     if found.seen.contains_key(word) {
         return Ok(());
     }
+    set(alloc, &mut found.seen, word, ())?;
     if !is_name(heads, arities, word) {
         return Ok(());
     }
-    set(alloc, &mut found.seen, word, ())?;
-    mark_ordered(alloc, &mut found.ordered, word)?;
-    Ok(())
+    mark_ordered(alloc, &mut found.ordered, word)
 }
 
 /// Adds the names that occur in the form.
