@@ -5,6 +5,7 @@
 mod argument_tests;
 mod arguments;
 mod diagnostic;
+mod hashed_words;
 mod laws;
 mod list;
 mod order;

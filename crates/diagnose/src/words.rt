@@ -1,7 +1,7 @@
 //! What is missing of words, or wrong with them.
 ghost use Rattle.std.specs.Prelude.{◌≡◌, ◌∷◌, ◌++◌, List, [], true, false, None, Some, IfOk, OnOk, MatchOption};
 ghost use Rattle.std.specs.Str.{bytes_eq};
-ghost use Rattle.kif_tree.specs.Shape.{is_among, logical_words};
+ghost use Rattle.kif_tree.specs.Shape.{is_among};
 ghost use Rattle.kif_tree.specs.Terms.{Bytes};
 ghost use Rattle.kif_tree.specs.declared.place.Located.{Located};
 ghost use Rattle.taxonomy.specs.Tables.{Tells};
@@ -14,7 +14,8 @@ ghost use Rattle.diagnose.specs.Words.{documents};
 ghost use Rattle.diagnose.specs.WordTables.{AreWords, IsDocumented, IsUnstated, AreSeen};
 
 use crate::diagnostic::Diagnostic;
-use kif_tree::{Form, Located, Place, Text, WordSet, is_headed};
+use crate::hashed_words::HashedWords;
+use kif_tree::{Form, Located, Place, Text, is_headed, is_logical_word};
 use sigma_base::NoMemory;
 use signatures::{Arity, Signatures, built_in};
 use std::alloc::Global;
@@ -23,8 +24,8 @@ use taxonomy::Taxonomy;
 /// What is looked up for words.
 #[derive(Debug, Drop)]
 pub struct WordTables {
-    documented: WordSet,
-    unstated: WordSet,
+    documented: HashedWords,
+    unstated: HashedWords,
 }
 
 /// The second part of a list, where that is a word.
@@ -54,10 +55,10 @@ fn documented_in(located: &Located) -> Option<&Text>
 }
 
 /// The words that forms document.
-fn documented_words(alloc: Global, forms: &[Located]) -> Result<WordSet, NoMemory>
+fn documented_words(alloc: Global, forms: &[Located]) -> Result<HashedWords, NoMemory>
     ensures { IfOk result (AreWords (IsDocumented forms.now)) }
 {
-    let mut words = WordSet::new(alloc);
+    let mut words = HashedWords::new(alloc);
     for located in forms {
         let Some(word) = documented_in(located) else {
             continue;
@@ -77,10 +78,10 @@ fn is_unstated(arity: Arity) -> bool
 }
 
 /// The relation names without a stated arity.
-fn unstated_words(alloc: Global, signatures: &Signatures) -> Result<WordSet, NoMemory>
+fn unstated_words(alloc: Global, signatures: &Signatures) -> Result<HashedWords, NoMemory>
     ensures { IfOk result (spec.AreUnstated signatures.now) }
 {
-    let mut words = WordSet::new(alloc);
+    let mut words = HashedWords::new(alloc);
     for name in signatures.relations() {
         if !is_unstated(signatures.arity(name.bytes())) {
             continue;
@@ -107,23 +108,11 @@ pub fn word_tables(
     })
 }
 
-fn is_logical(word: &[u8]) -> bool
-    ensures { result ≡ is_among logical_words word.now }
-{
-    word == b"not".as_slice()
-        || word == b"and".as_slice()
-        || word == b"or".as_slice()
-        || word == b"=>".as_slice()
-        || word == b"<=>".as_slice()
-        || word == b"forall".as_slice()
-        || word == b"exists".as_slice()
-}
-
 /// Whether the word is neither logical nor built-in.
 fn is_plain(word: &[u8]) -> bool
     ensures { result ≡ spec.is_plain word.now }
 {
-    if is_logical(word) {
+    if is_logical_word(word) {
         return false;
     }
     built_in(word).is_none()
@@ -191,7 +180,7 @@ fn add_if_new(
     place: Place,
     taxonomy: &Taxonomy,
     tables: &WordTables,
-    seen: &mut WordSet,
+    seen: &mut HashedWords,
     found: &mut Vec<Diagnostic>,
 ) -> Result<(), NoMemory>
     ensures seen { OnOk result (spec.Gains (spec.is_word word.now) seen.old seen.new) }
@@ -212,7 +201,7 @@ fn add_new_words(
     place: Place,
     taxonomy: &Taxonomy,
     tables: &WordTables,
-    seen: &mut WordSet,
+    seen: &mut HashedWords,
     found: &mut Vec<Diagnostic>,
 ) -> Result<(), NoMemory>
     ensures seen { OnOk result (spec.Gains (spec.occurs_in form.now) seen.old seen.new) }
@@ -281,7 +270,7 @@ pub fn add_word_faults(
     located: &Located,
     taxonomy: &Taxonomy,
     tables: &WordTables,
-    seen: &mut WordSet,
+    seen: &mut HashedWords,
     found: &mut Vec<Diagnostic>,
 ) -> Result<(), NoMemory>
     ensures seen { OnOk result ((before : List Located) → AreSeen before seen.old → is_shown located.now.form ≡ false → AreSeen (before ++ located.now ∷ []) seen.new) }
