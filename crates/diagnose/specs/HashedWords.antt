@@ -1,10 +1,9 @@
 -- Sets of words without an order.
-use Rattle.std.specs.Prelude.{ℕ, List, map}
+use Rattle.std.specs.Prelude.{List, map}
+use Rattle.std.specs.Borrow.{Bor}
 use Rattle.std.specs.HashSet.{HashSet}
-use Rattle.std.specs.declared.alloc.Global.{Global}
-use Rattle.std.specs.declared.vec.Vec.{Vec}
 use Rattle.kif_tree.specs.Terms.{Bytes}
 
 -- the words of the set, in the order of its places
-abbrev pub texts : {S : Type 0} → HashSet (Vec ℕ Global) S → List Bytes
-texts set = map (λ (key : Vec ℕ Global). key.items) set.keys
+abbrev pub texts : {S : Type 0} → HashSet (Bor Bytes) S → List Bytes
+texts set = map (λ (key : Bor Bytes). key.now) set.keys

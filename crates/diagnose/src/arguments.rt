@@ -28,7 +28,7 @@ use taxonomy::{ChainKind, Taxonomy};
 struct Given<'a> {
     taxonomy: &'a Taxonomy,
     signatures: &'a Signatures,
-    class_words: &'a HashedWords,
+    class_words: &'a HashedWords<'a>,
 }
 
 /// Adds what is wrong with the arguments of the form's lists.
@@ -37,7 +37,7 @@ pub fn add_argument_faults(
     located: &Located,
     taxonomy: &Taxonomy,
     signatures: &Signatures,
-    class_words: &HashedWords,
+    class_words: &HashedWords<'_>,
     found: &mut Vec<Diagnostic>,
 ) -> Result<(), NoMemory>
     ensures { OnOk result ((forms : List Located) → taxonomy.now ≡ told_taxonomy forms → AreSignatures forms signatures.now
@@ -322,25 +322,25 @@ struct ClassLink<'a> {
 }
 
 /// The words that stand in told `subclass` forms.
-pub fn class_words(alloc: Global, forms: &[Located]) -> Result<HashedWords, NoMemory>
+pub fn class_words<'a>(alloc: Global, forms: &'a [Located]) -> Result<HashedWords<'a>, NoMemory>
     ensures { IfOk result (AreWords (spec.IsClassWord (links forms.now))) }
 {
     let mut words = HashedWords::new(alloc);
     for located in forms {
-        add_class_words(alloc, &mut words, &located.form)?;
+        add_class_words(&mut words, &located.form)?;
     }
     Ok(words)
 }
 
 /// Adds the form's words, if it tells a subclass.
-fn add_class_words(alloc: Global, words: &mut HashedWords, form: &Form) -> Result<(), NoMemory>
+fn add_class_words<'a>(words: &mut HashedWords<'a>, form: &'a Form) -> Result<(), NoMemory>
     ensures { OnOk result ((word : Bytes) → (shape.is_among words.new word ≡ true) ↔ ((shape.is_among words.old word ≡ true) ⊎ class_spec.IsOfSubclassForm form.now word)) }
 {
     let Some(link) = class_link_in(form) else {
         return Ok(());
     };
-    words.add(alloc, link.low.bytes())?;
-    words.add(alloc, link.high.bytes())?;
+    words.add(link.low.bytes())?;
+    words.add(link.high.bytes())?;
     Ok(())
 }
 

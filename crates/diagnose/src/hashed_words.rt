@@ -1,5 +1,5 @@
 //! Words that are looked up often.
-ghost use Rattle.std.specs.Prelude.{◌≡◌, ◌||◌, [], OnOk};
+ghost use Rattle.std.specs.Prelude.{◌≡◌, ◌||◌, [], not, IfOk, OnOk};
 ghost use Rattle.std.specs.Str.{bytes_eq};
 ghost use Rattle.kif_tree.specs.Shape.{is_among};
 ghost use Rattle.kif_tree.specs.Terms.{Bytes};
@@ -9,13 +9,13 @@ use std::alloc::Global;
 use std::collections::HashSet;
 use std::marker::Model;
 
-/// A set of words without an order, which contracts see as a list.
+/// A set of words of forms, without an order, which contracts see as a list.
 #[derive(Debug, Drop)]
-pub struct HashedWords {
-    words: HashSet<Vec<u8>>,
+pub struct HashedWords<'a> {
+    words: HashSet<&'a [u8]>,
 }
 
-impl Model for HashedWords {
+impl<'a> Model for HashedWords<'a> {
     ghost use Rattle.kif_tree.specs.Terms.{Bytes};
     ghost use Rattle.diagnose.specs.HashedWords.{texts};
     ghost use Rattle.std.specs.Prelude.{List};
@@ -25,9 +25,9 @@ impl Model for HashedWords {
     ghost view = { λ set. texts set.words };
 }
 
-impl HashedWords {
+impl<'a> HashedWords<'a> {
     /// No words. It takes no memory.
-    pub fn new(alloc: Global) -> HashedWords
+    pub fn new(alloc: Global) -> HashedWords<'a>
         ensures { result ≡ [] }
     {
         HashedWords {
@@ -42,20 +42,11 @@ impl HashedWords {
         self.words.contains(word)
     }
 
-    /// Adds the word, if the set hasn't got it.
-    pub fn add(&mut self, alloc: Global, word: &[u8]) -> Result<(), NoMemory>
-        ensures { OnOk result ((other : Bytes) → is_among self.new other ≡ (is_among self.old other || bytes_eq other word.now)) }
+    /// Adds the word, if the set hasn't got it, and gives whether it was added. It is lent, and not copied.
+    pub fn add(&mut self, word: &'a [u8]) -> Result<bool, NoMemory>
+        ensures added { IfOk result (λ added. added ≡ not (is_among self.old word.now)) }
+        ensures has { OnOk result ((other : Bytes) → is_among self.new other ≡ (is_among self.old other || bytes_eq other word.now)) }
     {
-        if self.has(word) {
-            return Ok(());
-        }
-        self.insert(Vec::from_slice(alloc, word)?)
-    }
-
-    fn insert(&mut self, word: Vec<u8>) -> Result<(), NoMemory>
-        ensures { OnOk result ((other : Bytes) → is_among self.new other ≡ (is_among self.old other || bytes_eq other word.items)) }
-    {
-        self.words.insert(word)?;
-        Ok(())
+        Ok(self.words.insert(word)?)
     }
 }

@@ -24,9 +24,9 @@ use taxonomy::Taxonomy;
 
 /// What is looked up at each form.
 #[derive(Debug, Drop)]
-pub struct Tables {
-    pub words: WordTables,
-    pub class_words: HashedWords,
+pub struct Tables<'a> {
+    pub words: WordTables<'a>,
+    pub class_words: HashedWords<'a>,
     pub positions: Positions,
 }
 
@@ -39,12 +39,12 @@ fn is_shown(form: &Form) -> bool
         || is_headed(form, b"format")
 }
 
-fn tables_of(
+fn tables_of<'a>(
     alloc: Global,
-    forms: &[Located],
+    forms: &'a [Located],
     taxonomy: &Taxonomy,
-    signatures: &Signatures,
-) -> Result<Tables, NoMemory>
+    signatures: &'a Signatures,
+) -> Result<Tables<'a>, NoMemory>
     requires places { PlacesDiffer forms.now }
     requires taxonomy { taxonomy.now ≡ told_taxonomy forms.now }
     requires signatures { AreSignatures forms.now signatures.now }
@@ -61,13 +61,13 @@ fn tables_of(
 }
 
 /// What is wrong at a form that isn't only shown. `seen` are the words of earlier forms, and gets those of this one.
-fn found_at(
+fn found_at<'a>(
     alloc: Global,
-    located: &Located,
+    located: &'a Located,
     taxonomy: &Taxonomy,
     signatures: &Signatures,
-    tables: &Tables,
-    seen: &mut HashedWords,
+    tables: &Tables<'_>,
+    seen: &mut HashedWords<'a>,
 ) -> Result<Vec<Diagnostic>, NoMemory>
     ensures words { OnOk result ((before : List Located) → AreSeen before seen.old → relations.is_shown located.now.form ≡ false → AreSeen (before ++ located.now ∷ []) seen.new) }
     ensures found { IfOk result (λ found. (before after : List Located) → PlacesDiffer (before ++ located.now ∷ after) → relations.is_shown located.now.form ≡ false → so_far.AreTables (before ++ located.now ∷ after) taxonomy.now signatures.now tables.now → AreSeen before seen.old → (d : Diagnostic) → Contains found.items d ↔ so_far.IsAt (before ++ located.now ∷ after) located.now d) }
@@ -87,14 +87,14 @@ fn found_at(
 }
 
 /// Adds the diagnostics of one form.
-fn add_form(
+fn add_form<'a>(
     alloc: Global,
     forms: &[Located],
-    located: &Located,
+    located: &'a Located,
     taxonomy: &Taxonomy,
     signatures: &Signatures,
-    tables: &Tables,
-    seen: &mut HashedWords,
+    tables: &Tables<'_>,
+    seen: &mut HashedWords<'a>,
     list: &mut Vec<Diagnostic>,
 ) -> Result<(), NoMemory>
     ensures { OnOk result ((before after : List Located) → forms.now ≡ before ++ located.now ∷ after → PlacesDiffer forms.now → so_far.AreTables forms.now taxonomy.now signatures.now tables.now → so_far.AreSoFar forms.now before seen.old list.old.items → so_far.AreSoFar forms.now (before ++ located.now ∷ []) seen.new list.new.items) }

@@ -23,9 +23,9 @@ use taxonomy::Taxonomy;
 
 /// What is looked up for words.
 #[derive(Debug, Drop)]
-pub struct WordTables {
-    documented: HashedWords,
-    unstated: HashedWords,
+pub struct WordTables<'a> {
+    documented: HashedWords<'a>,
+    unstated: HashedWords<'a>,
 }
 
 /// The second part of a list, where that is a word.
@@ -55,7 +55,7 @@ fn documented_in(located: &Located) -> Option<&Text>
 }
 
 /// The words that forms document.
-fn documented_words(alloc: Global, forms: &[Located]) -> Result<HashedWords, NoMemory>
+fn documented_words<'a>(alloc: Global, forms: &'a [Located]) -> Result<HashedWords<'a>, NoMemory>
     ensures { IfOk result (AreWords (IsDocumented forms.now)) }
 {
     let mut words = HashedWords::new(alloc);
@@ -63,7 +63,7 @@ fn documented_words(alloc: Global, forms: &[Located]) -> Result<HashedWords, NoM
         let Some(word) = documented_in(located) else {
             continue;
         };
-        words.add(alloc, word.bytes())?;
+        words.add(word.bytes())?;
     }
     Ok(words)
 }
@@ -78,7 +78,10 @@ fn is_unstated(arity: Arity) -> bool
 }
 
 /// The relation names without a stated arity.
-fn unstated_words(alloc: Global, signatures: &Signatures) -> Result<HashedWords, NoMemory>
+fn unstated_words<'a>(
+    alloc: Global,
+    signatures: &'a Signatures,
+) -> Result<HashedWords<'a>, NoMemory>
     ensures { IfOk result (spec.AreUnstated signatures.now) }
 {
     let mut words = HashedWords::new(alloc);
@@ -86,17 +89,17 @@ fn unstated_words(alloc: Global, signatures: &Signatures) -> Result<HashedWords,
         if !is_unstated(signatures.arity(name.bytes())) {
             continue;
         }
-        words.add(alloc, name.bytes())?;
+        words.add(name.bytes())?;
     }
     Ok(words)
 }
 
 /// What is looked up for the words of the forms.
-pub fn word_tables(
+pub fn word_tables<'a>(
     alloc: Global,
-    forms: &[Located],
-    signatures: &Signatures,
-) -> Result<WordTables, NoMemory>
+    forms: &'a [Located],
+    signatures: &'a Signatures,
+) -> Result<WordTables<'a>, NoMemory>
     ensures documented { IfOk result (λ tables. AreWords (IsDocumented forms.now) tables.documented) }
     ensures unstated { IfOk result (λ tables. AreSignatures forms.now signatures.now → AreWords (IsUnstated forms.now) tables.unstated) }
 {
@@ -124,7 +127,7 @@ fn lacks_parent(taxonomy: &Taxonomy, word: &[u8]) -> bool
     taxonomy.parents(word).is_empty() && word != b"Entity".as_slice() && is_plain(word)
 }
 
-fn lacks_documentation(tables: &WordTables, word: &[u8]) -> bool
+fn lacks_documentation(tables: &WordTables<'_>, word: &[u8]) -> bool
     ensures { result ≡ spec.lacks_documentation tables.now word.now }
 {
     !tables.documented.has(word) && is_plain(word)
@@ -160,7 +163,7 @@ fn add_faults(
     word: &[u8],
     place: Place,
     taxonomy: &Taxonomy,
-    tables: &WordTables,
+    tables: &WordTables<'_>,
     found: &mut Vec<Diagnostic>,
 ) -> Result<(), NoMemory>
     ensures { OnOk result (Adds (spec.IsFault taxonomy.now tables.now place word.now) found.old.items found.new.items) }
@@ -174,34 +177,33 @@ fn add_faults(
 }
 
 /// Adds what is missing of the word, if it wasn't seen before.
-fn add_if_new(
+fn add_if_new<'a>(
     alloc: Global,
-    word: &[u8],
+    word: &'a [u8],
     place: Place,
     taxonomy: &Taxonomy,
-    tables: &WordTables,
-    seen: &mut HashedWords,
+    tables: &WordTables<'_>,
+    seen: &mut HashedWords<'a>,
     found: &mut Vec<Diagnostic>,
 ) -> Result<(), NoMemory>
     ensures seen { OnOk result (spec.Gains (spec.is_word word.now) seen.old seen.new) }
     ensures found { OnOk result (Adds (spec.IsNew (spec.IsFault taxonomy.now tables.now place) seen.old (spec.is_word word.now)) found.old.items found.new.items) }
 {
-    if seen.has(word) {
+    if !seen.add(word)? {
         return Ok(());
     }
-    seen.add(alloc, word)?;
     add_faults(alloc, word, place, taxonomy, tables, found)
 }
 
 /// Adds what is missing of the words of the form that weren't seen before.
 #[cycle(add_new_words)]
-fn add_new_words(
+fn add_new_words<'a>(
     alloc: Global,
-    form: &Form,
+    form: &'a Form,
     place: Place,
     taxonomy: &Taxonomy,
-    tables: &WordTables,
-    seen: &mut HashedWords,
+    tables: &WordTables<'_>,
+    seen: &mut HashedWords<'a>,
     found: &mut Vec<Diagnostic>,
 ) -> Result<(), NoMemory>
     ensures seen { OnOk result (spec.Gains (spec.occurs_in form.now) seen.old seen.new) }
@@ -265,12 +267,12 @@ fn add_disjoint(
 
 /// Adds what is wrong with words at the form: with those that no earlier form has, and with the word of which it is the first to tell a parent.
 /// `seen` are the words of earlier forms, and gets those of this one.
-pub fn add_word_faults(
+pub fn add_word_faults<'a>(
     alloc: Global,
-    located: &Located,
+    located: &'a Located,
     taxonomy: &Taxonomy,
-    tables: &WordTables,
-    seen: &mut HashedWords,
+    tables: &WordTables<'_>,
+    seen: &mut HashedWords<'a>,
     found: &mut Vec<Diagnostic>,
 ) -> Result<(), NoMemory>
     ensures seen { OnOk result ((before : List Located) → AreSeen before seen.old → is_shown located.now.form ≡ false → AreSeen (before ++ located.now ∷ []) seen.new) }
