@@ -8,6 +8,8 @@ mod diagnostic;
 mod hashed_words;
 mod laws;
 mod list;
+#[cfg(test)]
+mod list_tests;
 mod order;
 #[cfg(test)]
 mod variable_tests;

@@ -25,7 +25,7 @@ fn part(alloc: Global, text: &[u8]) -> Result<Form, NoMemory> {
     }
 }
 
-fn list(alloc: Global, text: &[u8]) -> Result<Form, NoMemory> {
+pub(crate) fn list(alloc: Global, text: &[u8]) -> Result<Form, NoMemory> {
     let mut parts = Listed::new(alloc);
     for spelled in text.split(|byte| *byte == b' ') {
         parts.push(part(alloc, spelled)?)?;
