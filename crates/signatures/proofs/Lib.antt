@@ -8,8 +8,10 @@ pub mod SubjectLaws
 pub mod ArityLaws
 pub mod TableLaws
 pub mod NameLaws
+pub mod CandidateLaws
 pub mod MarkLaws
 pub mod ArgumentLaws
 pub mod TypeLaws
 pub mod WordTableLaws
 pub mod FormLaws
+pub mod WordHeads

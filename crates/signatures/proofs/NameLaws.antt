@@ -25,11 +25,11 @@ use Rattle.taxonomy.specs.Told.{Link, links}
 use Rattle.signatures.specs.declared.inherited.Inherited.{Inherited}
 use Rattle.signatures.specs.declared.told.Arity.{Arity}
 use Rattle.signatures.specs.declared.told.Arity.TheVariants.{Exactly, Any, Unstated}
-use Rattle.signatures.specs.Arities.{shown_heads, IsOwnArity, HasOwnArity, IsInheritedArity, IsUnstated, IsArity}
+use Rattle.signatures.specs.Arities.{shown_heads, built_in, IsOwnArity, HasOwnArity, IsInheritedArity, IsUnstated, IsArity}
 use Rattle.signatures.specs.Layers.{Among}
 use Rattle.signatures.specs.Marks.{Marks, OrderedMarks, has, has_ordered, is_word, AreMarked, key_words, is_stated}
 use Rattle.signatures.specs.declared.names.Found.{Found}
-use Rattle.signatures.specs.Names.{is_name, HasNames, AddsNames, AreNames, occurs_in}
+use Rattle.signatures.specs.Names.{AreCandidates, may_be_name, is_name, HasNames, AddsNames, AreNames, occurs_in}
 use Rattle.signatures.specs.Nearest.{IsBefore, IsNearest}
 use Rattle.signatures.specs.Relations.{is_shown, is_snapshot_word, heads_a_list, HasStatedArity, IsRelationName, AreAscending, AreRelationNames}
 use Rattle.signatures.specs.Tables.{arity_by}
@@ -212,6 +212,27 @@ module _ {S : Type 0} (heads : Marks S) (arities : Inherited Arity) where
     λ other. seen_before (has_ordered found.ordered other) (name other) (bytes_eq other word) (λ e n. names other (ap (has found.seen) ((bytes_eq-Decides other word).0 e) ∙ sym is ∙ known) n),
   )
 
+  pub name_never : (candidates : Marks S) (found : Found) (word : Bytes) (b : Bool) → AreCandidates heads arities candidates → b ≡ may_be_name candidates word → b ≡ false → AddsNames heads arities (is_word word) found found
+  name_never candidates found word b all is none = λ names. (names, λ other. no_name (has_ordered found.ordered other) (name other) (bytes_eq other word) (λ e. ap name ((bytes_eq-Decides other word).0 e) ∙ not_named))
+    where
+      not_either : (c d : Bool) → (c || d) ≡ false → (c ≡ false) × (d ≡ false)
+      not_either true d h = absurd (cc)
+      not_either false d h = (refl, h)
+
+      two : (has candidates word ≡ false) × (is_some (built_in word) ≡ false)
+      two = not_either (has candidates word) (is_some (built_in word)) (sym is ∙ none)
+
+      no_arity : (o : Option Arity) → is_some o ≡ false → o ≡ None
+      no_arity (Some arity) h = absurd (cc)
+      no_arity None h = refl
+
+      not_named : name word ≡ false
+      not_named = go (name word) refl
+        where
+          go : (n : Bool) → name word ≡ n → n ≡ false
+          go true e = let there : has candidates word ≡ true = all word (no_arity (built_in word) two.1) e in let gone : has candidates word ≡ false = two.0 in absurd (cc)
+          go false e = refl
+
   pub name_not : (found new : Found) (word : Bytes) (b : Bool) → b ≡ name word → b ≡ false → IsSet found.seen new.seen word tt → new.ordered ≡ found.ordered → AddsNames heads arities (is_word word) found new
   name_not found new word b is none set same = λ names. (
     (λ other h n. go names other n (seen_now found.seen new.seen word other set h)),
@@ -267,6 +288,28 @@ module _ {S : Type 0} (heads : Marks S) (arities : Inherited Arity) where
   or_and : (n t u : Bool) → ((n && t) || (n && u)) ≡ (n && (t || u))
   or_and true t u = refl
   or_and false t u = refl
+
+  pub names_begun : (found : Found) → found.seen.entries ≡ [] → found.ordered.entries ≡ [] → HasNames heads arities found × AreNames heads arities (is_snapshot_word []) found.ordered
+  names_begun found nothing none = ((λ word h n. absurd (unseen word h)), λ word. empty word ∙ sym (never (name word)))
+    where
+      unseen : (word : Bytes) → has found.seen word ≡ true → ⊥
+      unseen word h = let e : has found.seen word ≡ false = ap (λ (es : List (Key × Unit {0})). is_some (lookup (λ (key : Key). bytes_eq word key.items) es)) nothing in absurd (cc)
+
+      empty : (word : Bytes) → has_ordered found.ordered word ≡ false
+      empty word = ap (λ (es : List (Key × Unit {0})). is_some (lookup (λ (key : Key). is_eq (slice_cmp nat_cmp word key.items)) es)) none
+
+      never : (n : Bool) → (n && false) ≡ false
+      never true = refl
+      never false = refl
+
+  pub form_shown : (found : Found) (forms : List Located) (i : ℕ) (located : Located) (b : Bool) → i < length forms → located ≡ get_or forms i located → b ≡ is_shown located.form → b ≡ true → HasNames heads arities found × AreNames heads arities (is_snapshot_word (take i forms)) found.ordered
+      → HasNames heads arities found × AreNames heads arities (is_snapshot_word (take (i + 1) forms)) found.ordered
+  form_shown found forms i located b lt is shown so one = (
+    one.0,
+    λ word. one.1 word
+        ∙ ap (λ t. name word && t) (sym (any_more (λ (l : Located). not (is_shown l.form) && has_word word l.form) forms i located lt is
+        ∙ ap (λ d. is_snapshot_word (take i forms) word || (not d && has_word word located.form)) (sym shown ∙ so) ∙ or_false (is_snapshot_word (take i forms) word))),
+  )
 
   pub form_names : (mid new : Found) (forms : List Located) (i : ℕ) (located : Located) (b : Bool) → i < length forms → located ≡ get_or forms i located → b ≡ is_shown located.form → b ≡ false → HasNames heads arities mid × AreNames heads arities (is_snapshot_word (take i forms)) mid.ordered
       → AddsNames heads arities (occurs_in located.form) mid new → HasNames heads arities new × AreNames heads arities (is_snapshot_word (take (i + 1) forms)) new.ordered

@@ -15,8 +15,8 @@ use std::alloc::Global;
 /// The words' own values, and for words without one the nearest word that has one.
 #[derive(Debug, Drop)]
 pub struct Inherited<V> {
-    own: WordTable<V>,
-    nearest: WordTable<Note>,
+    pub own: WordTable<V>,
+    pub nearest: WordTable<Note>,
 }
 
 /// The words' own values, and those that they take from other words by the forms' `subrelation`, of which the lower words are given.

@@ -133,17 +133,50 @@ fn is_name(heads: &Marks, arities: &Inherited<Arity>, word: &[u8]) -> bool
     is_stated(arity_in(arities, word))
 }
 
-/// Adds the word, where it is a name. Each word is looked at once.
+/// Marks the words that have something in the table.
+fn mark_keys<V>(alloc: Global, marks: &mut Marks, table: &WordTable<V>) -> Result<(), NoMemory>
+    ensures { OnOk result (names.MarksKeys table.now marks.old marks.new) }
+{
+    for key in table.keys() {
+        mark(alloc, marks, key.as_slice())?;
+    }
+    Ok(())
+}
+
+/// The words that may be names: those that head lists or have an arity, but not all built-in ones.
+fn candidates(alloc: Global, heads: &Marks, arities: &Inherited<Arity>) -> Result<Marks, NoMemory>
+    ensures { IfOk result (names.AreCandidates heads.now arities.now) }
+{
+    let mut marks = HashMap::new(alloc);
+    mark_keys(alloc, &mut marks, heads)?;
+    mark_keys(alloc, &mut marks, &arities.own)?;
+    mark_keys(alloc, &mut marks, &arities.nearest)?;
+    Ok(marks)
+}
+
+/// Whether the word is a candidate or built in. No other word is a name.
+fn may_be_name(candidates: &Marks, word: &[u8]) -> bool
+    ensures { result ≡ names.may_be_name candidates.now word.now }
+{
+    candidates.contains_key(word) || built_in(word).is_some()
+}
+
+/// Adds the word, where it is a name. Each candidate is looked at once.
 fn add_name(
     alloc: Global,
     found: &mut Found,
+    candidates: &Marks,
     heads: &Marks,
     arities: &Inherited<Arity>,
     word: &[u8],
 ) -> Result<(), NoMemory>
+    requires { names.AreCandidates heads.now arities.now candidates.now }
     ensures { OnOk result (names.AddsNames heads.now arities.now (spec.is_word word.now) found.old found.new) }
 {
     if found.seen.contains_key(word) {
+        return Ok(());
+    }
+    if !may_be_name(candidates, word) {
         return Ok(());
     }
     set(alloc, &mut found.seen, word, ())?;
@@ -158,20 +191,22 @@ fn add_name(
 fn add_names(
     alloc: Global,
     found: &mut Found,
+    candidates: &Marks,
     heads: &Marks,
     arities: &Inherited<Arity>,
     form: &Form,
 ) -> Result<(), NoMemory>
+    requires { names.AreCandidates heads.now arities.now candidates.now }
     ensures { OnOk result (names.AddsNames heads.now arities.now (names.occurs_in form.now) found.old found.new) }
 {
     match form {
         Form::Word(text) => {
-            add_name(alloc, found, heads, arities, text.bytes())?;
+            add_name(alloc, found, candidates, heads, arities, text.bytes())?;
             Ok(())
         }
         Form::List(parts) => {
             for part in parts.items() {
-                add_names(alloc, found, heads, arities, part)?;
+                add_names(alloc, found, candidates, heads, arities, part)?;
             }
             Ok(())
         }
@@ -188,6 +223,7 @@ pub fn names_of(
 ) -> Result<OrderedMarks, NoMemory>
     ensures { IfOk result (names.AreNames heads.now arities.now (relations.is_snapshot_word forms.now)) }
 {
+    let candidates = candidates(alloc, heads, arities)?;
     let mut found = Found {
         seen: HashMap::new(alloc),
         ordered: BTreeMap::new(alloc),
@@ -196,7 +232,14 @@ pub fn names_of(
         if is_shown(&located.form) {
             continue;
         }
-        add_names(alloc, &mut found, heads, arities, &located.form)?;
+        add_names(
+            alloc,
+            &mut found,
+            &candidates,
+            heads,
+            arities,
+            &located.form,
+        )?;
     }
     let Found { ordered, .. } = found;
     Ok(ordered)
