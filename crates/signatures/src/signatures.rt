@@ -87,11 +87,11 @@ fn argument_types(
 }
 
 /// The types of the word's argument in the tables.
-fn types_among<'a>(entries: &'a [ArgumentTypes], word: &[u8], number: u32) -> &'a [TypeTold]
+fn types_among<'a>(entries: &'a [ArgumentTypes], word: &[u8], number: usize) -> &'a [TypeTold]
     ensures { result.now ≡ spec.types_at entries.now word.now number }
 {
     for entry in entries {
-        if entry.number == number {
+        if entry.number as usize == number {
             return match entry.types.value(word) {
                 Some(types) => types.items(),
                 None => &[],
@@ -131,6 +131,13 @@ impl Signatures {
 
     /// The types of the argument, its own or inherited ones, in order of the forms that tell them. It takes no memory.
     pub fn domain_of(&self, relation: &[u8], argument: u32) -> &[TypeTold]
+        ensures { result.now ≡ spec.types_in self.now relation.now argument }
+    {
+        self.domain_at(relation, argument as usize)
+    }
+
+    /// The same by a number of any size. It takes no memory.
+    pub fn domain_at(&self, relation: &[u8], argument: usize) -> &[TypeTold]
         ensures { result.now ≡ spec.types_in self.now relation.now argument }
     {
         types_among(self.types.as_slice(), relation, argument)
