@@ -20,7 +20,7 @@ use std::collections::HashMap;
 use taxonomy::Taxonomy;
 
 /// The types of words' arguments, by the numbers of these.
-type ArgumentTypes = HashMap<u32, Inherited<Listed<TypeTold>>>;
+type ArgumentTypes = HashMap<usize, Inherited<Listed<TypeTold>>>;
 
 /// What forms tell of relations and functions.
 #[derive(Debug, Drop)]
@@ -46,12 +46,13 @@ fn add_number(
     let Some(found) = argument_in(located) else {
         return Ok(());
     };
-    if tables.contains_key(&found.number) {
+    let number = found.number as usize;
+    if tables.contains_key(&number) {
         return Ok(());
     }
     let own_types = take_types(alloc, own, found.number);
     let types = inherit(alloc, forms, lowers, own_types)?;
-    tables.insert(found.number, types)?;
+    tables.insert(number, types)?;
     Ok(())
 }
 
@@ -103,6 +104,13 @@ impl Signatures {
 
     /// The types of the argument, its own or inherited ones, in order of the forms that tell them. It takes no memory.
     pub fn domain_of(&self, relation: &[u8], argument: u32) -> &[TypeTold]
+        ensures { result.now ≡ spec.types_in self.now relation.now argument }
+    {
+        self.domain_at(relation, argument as usize)
+    }
+
+    /// The same by a number of any size. It takes no memory.
+    pub fn domain_at(&self, relation: &[u8], argument: usize) -> &[TypeTold]
         ensures { result.now ≡ spec.types_in self.now relation.now argument }
     {
         let Some(table) = self.types.get(&argument) else {
