@@ -9,7 +9,7 @@ ghost use Rattle.type_guard.specs.Guarded as spec;
 ghost use Rattle.type_guard.specs.Guards as guards_of;
 ghost use Rattle.type_guard.specs.Occurrences.{is_variable};
 
-use crate::guards::guards;
+use crate::guards::gather_guards;
 use kif_tree::{Form, Forms, Text, free_names, is_quantifier, lists_names, parts_of};
 use sigma_base::{Listed, NoMemory};
 use signatures::Signatures;
@@ -25,7 +25,7 @@ pub fn guard(alloc: Global, form: &Form, signatures: &Signatures) -> Result<Form
     if names.items().is_empty() {
         return guarded(alloc, signatures, form);
     }
-    let guards = guards(alloc, signatures, names.items(), form)?;
+    let guards = gather_guards(alloc, signatures, names.items(), form)?;
     let mut parts = headed(alloc, b"forall")?;
     parts.push(Form::List(names))?;
     let body = guarded(alloc, signatures, form)?;
@@ -103,7 +103,7 @@ fn quantifier(
 ) -> Result<Forms, NoMemory>
     ensures { IfOk result (λ parts. lists_names_layer (out-Form names.now) ≡ true → parts ≡ head.now ∷ names.now ∷ spec.under head.now (guards_of.guards signatures.now (names_of.parts_in names.now) body.now) made ∷ []) }
 {
-    let guards = guards(alloc, signatures, parts_of(names), body)?;
+    let guards = gather_guards(alloc, signatures, parts_of(names), body)?;
     let mut parts = Listed::new(alloc);
     parts.push(head.copy(alloc)?)?;
     parts.push(names.copy(alloc)?)?;

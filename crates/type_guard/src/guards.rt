@@ -20,7 +20,7 @@ use std::collections::BTreeSet;
 type Key<'a> = (&'a [u8], &'a [u8], &'a [u8]);
 
 /// The guards of the variables in the body, each once, in order of the free occurrences that give them.
-pub fn guards(
+pub fn gather_guards(
     alloc: Global,
     signatures: &Signatures,
     names: &[Form],

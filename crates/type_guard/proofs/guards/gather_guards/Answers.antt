@@ -1,5 +1,5 @@
 use Rattle.type_guard.proofs.GatherLaws.{whole}
-use Rattle.type_guard.proofs.guards.guards.Goals as goal
+use Rattle.type_guard.proofs.guards.gather_guards.Goals as goal
 
 pub returns : goal.returns
 returns c =
