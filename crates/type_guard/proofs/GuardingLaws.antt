@@ -3,7 +3,6 @@ use Rattle.std.proofs.Common.{◌≡◌, ◌<◌, ◌≤◌, List, [], ◌∷◌
 use Rattle.std.specs.Prelude.{Result, IfOk, codes}
 use Rattle.std.specs.Str.{bytes_eq}
 use Rattle.std.proofs.lemmas.Result.{IfOk-weaker}
-use Rattle.sigma_base.proofs.SliceLaws.{no_items}
 use Rattle.kif_tree.specs.declared.form.Form.{Form, out-Form}
 use Rattle.kif_tree.specs.declared.form.Form.TheVariants as form
 use Rattle.kif_tree.specs.NameLaws.{all_filtered, each_once_all, free_names_all}
