@@ -25,7 +25,7 @@ use Rattle.kif_tree.specs.Terms.{Bytes, same}
 use Rattle.signatures.specs.declared.signatures.Signatures.{Signatures}
 use Rattle.signatures.specs.declared.told.TypeTold.{TypeTold}
 use Rattle.type_guard.specs.Gathered.{Key, key_cmp, guard_with, AreGathered}
-use Rattle.type_guard.specs.Guards.{pair, guard_of, head_of, guards_at, is_of, guards}
+use Rattle.type_guard.specs.Guards.{membership, guard_of, head_of, guards_at, is_of, guards}
 use Rattle.type_guard.specs.Occurrences.{Occurrence, occurrences}
 use Rattle.type_guard.specs.Reads.{all}
 use Rattle.type_guard.specs.declared.occurrences.VariableAt.{VariableAt}
@@ -51,8 +51,8 @@ word_text a b e = let layers : Form-F.Word a ≡ Form-F.Word b = sym (form.outs-
 variable_text : (a b : Bytes) → form.Variable a ≡ form.Variable b → a ≡ b
 variable_text a b e = let layers : Form-F.Variable a ≡ Form-F.Variable b = sym (form.outs-Variable a) ∙ ap out-Form e ∙ form.outs-Variable b in cc
 
-pair_texts : (h v c i w d : Bytes) → pair h (form.Variable v) c ≡ pair i (form.Variable w) d → (h ≡ i) × (v ≡ w) × (c ≡ d)
-pair_texts h v c i w d e =
+membership_texts : (h v c i w d : Bytes) → membership h (form.Variable v) c ≡ membership i (form.Variable w) d → (h ≡ i) × (v ≡ w) × (c ≡ d)
+membership_texts h v c i w d e =
     let layers : Form-F.List (form.Word h ∷ form.Variable v ∷ form.Word c ∷ []) ≡ Form-F.List (form.Word i ∷ form.Variable w ∷ form.Word d ∷ [])
     = sym (form.outs-List (form.Word h ∷ form.Variable v ∷ form.Word c ∷ [])) ∙ ap out-Form e ∙ form.outs-List (form.Word i ∷ form.Variable w ∷ form.Word d ∷ []) in
     let first : form.Word h ≡ form.Word i = cc in
@@ -60,26 +60,26 @@ pair_texts h v c i w d e =
     let third : form.Word c ≡ form.Word d = cc in
     (word_text h i first, variable_text v w second, word_text c d third)
 
-same_pair : (h v c i w d : Bytes) → same (pair h (form.Variable v) c) (pair i (form.Variable w) d) ≡ ((bytes_eq h i && bytes_eq v w) && bytes_eq c d)
-same_pair h v c i w d =
-    same_from_decides (same (pair h (form.Variable v) c) (pair i (form.Variable w) d)) ((bytes_eq h i && bytes_eq v w) && bytes_eq c d)
-    (same-Decides (pair h (form.Variable v) c) (pair i (form.Variable w) d)) (to, from)
+same_membership : (h v c i w d : Bytes) → same (membership h (form.Variable v) c) (membership i (form.Variable w) d) ≡ ((bytes_eq h i && bytes_eq v w) && bytes_eq c d)
+same_membership h v c i w d =
+    same_from_decides (same (membership h (form.Variable v) c) (membership i (form.Variable w) d)) ((bytes_eq h i && bytes_eq v w) && bytes_eq c d)
+    (same-Decides (membership h (form.Variable v) c) (membership i (form.Variable w) d)) (to, from)
   where
-    to : ((bytes_eq h i && bytes_eq v w) && bytes_eq c d) ≡ true → pair h (form.Variable v) c ≡ pair i (form.Variable w) d
+    to : ((bytes_eq h i && bytes_eq v w) && bytes_eq c d) ≡ true → membership h (form.Variable v) c ≡ membership i (form.Variable w) d
     to k =
         let p = both (bytes_eq h i && bytes_eq v w) (bytes_eq c d) k in
         let q = both (bytes_eq h i) (bytes_eq v w) p.0 in
-        ap (λ (x : Bytes). pair x (form.Variable v) c) ((bytes_eq-Decides h i).0 q.0)
-        ∙ ap (λ (x : Bytes). pair i (form.Variable x) c) ((bytes_eq-Decides v w).0 q.1)
-        ∙ ap (λ (x : Bytes). pair i (form.Variable w) x) ((bytes_eq-Decides c d).0 p.1)
+        ap (λ (x : Bytes). membership x (form.Variable v) c) ((bytes_eq-Decides h i).0 q.0)
+        ∙ ap (λ (x : Bytes). membership i (form.Variable x) c) ((bytes_eq-Decides v w).0 q.1)
+        ∙ ap (λ (x : Bytes). membership i (form.Variable w) x) ((bytes_eq-Decides c d).0 p.1)
 
-    from : pair h (form.Variable v) c ≡ pair i (form.Variable w) d → ((bytes_eq h i && bytes_eq v w) && bytes_eq c d) ≡ true
+    from : membership h (form.Variable v) c ≡ membership i (form.Variable w) d → ((bytes_eq h i && bytes_eq v w) && bytes_eq c d) ≡ true
     from e =
-        let t = pair_texts h v c i w d e in
+        let t = membership_texts h v c i w d e in
         ap₂ ◌&&◌ (ap₂ ◌&&◌ ((bytes_eq-Decides h i).1 t.0) ((bytes_eq-Decides v w).1 t.1)) ((bytes_eq-Decides c d).1 t.2)
 
 key_same : (x y : Key) → is_eq (key_cmp x y) ≡ same (guard_with y) (guard_with x)
-key_same x y = key_equal x y ∙ sym (same_pair x.0.now x.1.now x.2.now y.0.now y.1.now y.2.now) ∙ same_turned (guard_with x) (guard_with y)
+key_same x y = key_equal x y ∙ sym (same_membership x.0.now x.1.now x.2.now y.0.now y.1.now y.2.now) ∙ same_turned (guard_with x) (guard_with y)
 
 -- ---- one more guard
 
@@ -115,9 +115,9 @@ gathered_old all guards old new key guard added is test seen updates h = record 
   known = known_more all old new key guard is h.known updates;
 }
 
-pub three_texts : (variable : Bytes) (told : TypeTold) (head first class : Bytes) → head ≡ head_of told → first ≡ variable → class ≡ told.class → guard_of (form.Variable variable) told ≡ pair head (form.Variable first) class
+pub three_texts : (variable : Bytes) (told : TypeTold) (head first class : Bytes) → head ≡ head_of told → first ≡ variable → class ≡ told.class → guard_of (form.Variable variable) told ≡ membership head (form.Variable first) class
 three_texts variable told head first class e f g =
-    ap (λ (x : Bytes). pair x (form.Variable variable) told.class) (sym e) ∙ ap (λ (x : Bytes). pair head (form.Variable x) told.class) (sym f) ∙ ap (λ (x : Bytes). pair head (form.Variable first) x) (sym g)
+    ap (λ (x : Bytes). membership x (form.Variable variable) told.class) (sym e) ∙ ap (λ (x : Bytes). membership head (form.Variable x) told.class) (sym f) ∙ ap (λ (x : Bytes). membership head (form.Variable first) x) (sym g)
 
 -- ---- all guards of a quantifier
 

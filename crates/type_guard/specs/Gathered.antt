@@ -10,7 +10,7 @@ use Rattle.kif_tree.specs.declared.form.Form.{Form}
 use Rattle.kif_tree.specs.declared.form.Form.TheVariants as form
 use Rattle.kif_tree.specs.Names.{each_once}
 use Rattle.kif_tree.specs.Terms.{Bytes, same}
-use Rattle.type_guard.specs.Guards.{pair}
+use Rattle.type_guard.specs.Guards.{membership}
 
 -- the three texts of a guard, lent
 abbrev pub Key : Type 0
@@ -20,7 +20,7 @@ abbrev pub key_cmp : Key → Key → Ordering
 key_cmp x y = ordering_then (ordering_then (slice_cmp nat_cmp x.0.now y.0.now) (slice_cmp nat_cmp x.1.now y.1.now)) (slice_cmp nat_cmp x.2.now y.2.now)
 
 abbrev pub guard_with : Key → Form
-guard_with key = pair key.0.now (form.Variable key.1.now) key.2.now
+guard_with key = membership key.0.now (form.Variable key.1.now) key.2.now
 
 -- of these guards each was gathered once, and the set has those that were
 pub record AreGathered (all guards : List Form) (seen : BTreeSet Key) : Type 0 where

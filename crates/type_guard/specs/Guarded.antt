@@ -32,12 +32,12 @@ abbrev pub all_of : Form → List Form → Form
 all_of guard [] = guard
 all_of guard (other ∷ more) = list_of (codes "and") (guard ∷ other ∷ more)
 
--- what is so of each thing holds where the guards do
+-- `(=> G B)`: what is so of each thing holds where the guards do
 abbrev pub for_all : List Form → Form → Form
 for_all [] body = body
 for_all (guard ∷ more) body = list_of (codes "=>") (all_of guard more ∷ body ∷ [])
 
--- what is so of some thing holds beside the guards
+-- `(and G1 .. Gk B)`: what is so of some thing holds beside the guards
 abbrev pub for_some : List Form → Form → Form
 for_some [] body = body
 for_some (guard ∷ more) body = list_of (codes "and") (guard ∷ more ++ body ∷ [])
@@ -46,7 +46,7 @@ abbrev pub is_existential : Form → Bool
 is_existential head = begins (bytes_eq (codes "exists")) (head ∷ [])
 
 abbrev pub under : Form → List Form → Form → Form
-under quantifier guards body = if is_existential quantifier then for_some guards body else for_all guards body
+under quantifier all body = if is_existential quantifier then for_some all body else for_all all body
 
 -- ---- at each quantifier
 
@@ -57,7 +57,7 @@ Part = Form × Form
 abbrev pub each_guarded : List Part → List Form
 each_guarded parts = map (λ (part : Part). part.1) parts
 
--- the guards are those of the body as it stood before guarding
+-- a quantifier's guards are those of its body as it stood before guarding; any other list keeps its parts, each guarded
 abbrev pub guarded_parts : Signatures → List Part → List Form
 guarded_parts signatures (head ∷ names ∷ body ∷ []) =
     if is_quantifier head.0 && lists_names_layer (out-Form names.0)

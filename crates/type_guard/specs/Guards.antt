@@ -11,15 +11,16 @@ use Rattle.signatures.specs.declared.signatures.Signatures.{Signatures}
 use Rattle.signatures.specs.declared.told.TypeTold.{TypeTold}
 use Rattle.type_guard.specs.Occurrences.{Occurrence, occurrences}
 
-abbrev pub pair : Bytes → Form → Bytes → Form
-pair head variable class = form.List (form.Word head ∷ variable ∷ form.Word class ∷ [])
+-- the head with the variable and the class
+abbrev pub membership : Bytes → Form → Bytes → Form
+membership head variable class = form.List (form.Word head ∷ variable ∷ form.Word class ∷ [])
 
 abbrev pub head_of : TypeTold → Bytes
 head_of type = if type.subclass then codes "subclass" else codes "instance"
 
 -- `(instance ?X C)` or `(subclass ?X C)`
 abbrev pub guard_of : Form → TypeTold → Form
-guard_of variable type = pair (head_of type) variable type.class
+guard_of variable type = membership (head_of type) variable type.class
 
 abbrev pub is_entity : TypeTold → Bool
 is_entity type = bytes_eq type.class (codes "Entity")

@@ -43,7 +43,7 @@ of_parts (Form-F.List fs) parts = in_parts parts
 abbrev pub forms_of : List Part → List Form
 forms_of parts = map (λ (part : Part). part.0) parts
 
--- the variable list of a quantifier has no arguments
+-- the arguments of a list, without the variable list of a quantifier, whose body counts as the first
 abbrev pub of_list : List Part → List Occurrence
 of_list [] = []
 of_list (head ∷ arguments) = of_parts (out-Form head.0) (without_first (lists_variables (forms_of (head ∷ arguments))) arguments)

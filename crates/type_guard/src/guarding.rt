@@ -15,9 +15,14 @@ use sigma_base::{Listed, NoMemory};
 use signatures::Signatures;
 use std::alloc::Global;
 
-/// The form under a `forall` over its free variables, with the body of each quantifier guarded by the types of its variables: under
-/// `forall` the body holds where the guards do, under `exists` beside them. A variable has the types of each argument place at which
-/// it is free in the body, inherited ones too, but for `Entity`.
+/// The form under a `forall` over its free variables, in order of their first free occurrence, with guards at each quantifier.
+///
+/// A quantifier's guards are taken from its body as it stood before guarding, from left to right: each free occurrence of one of its
+/// variables as an argument of a list headed by a word gives, for each type of that argument, `(instance ?X C)`, or `(subclass ?X C)`
+/// for a type of subclasses. `Entity` gives none, and equal guards are written once. Under `forall` the body B becomes
+/// `(=> (and G1 .. Gk) B)`, or `(=> G B)` with one guard, and under `exists` it becomes `(and G1 .. Gk B)`. Without guards it stays.
+///
+/// It is meant for variants, which have no row variables: those that are free stay so.
 pub fn guard(alloc: Global, form: &Form, signatures: &Signatures) -> Result<Form, NoMemory>
     ensures { IfOk result (λ guarded. guarded ≡ spec.guarded signatures.now (spec.closed form.now)) }
 {

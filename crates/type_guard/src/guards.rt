@@ -98,7 +98,7 @@ fn head_of(told: &TypeTold) -> &'static [u8]
 
 /// `(instance ?X C)` or `(subclass ?X C)`.
 fn guard_of(alloc: Global, head: &[u8], variable: &Text, class: &Text) -> Result<Form, NoMemory>
-    ensures { IfOk result (λ guard. guard ≡ spec.pair head.now (form_of.Variable variable.now) class.now) }
+    ensures { IfOk result (λ guard. guard ≡ spec.membership head.now (form_of.Variable variable.now) class.now) }
 {
     let mut parts = Listed::new(alloc);
     parts.push(Form::Word(Text::of(alloc, head)?))?;

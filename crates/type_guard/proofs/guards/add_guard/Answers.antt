@@ -2,7 +2,7 @@ use Rattle.std.proofs.Common.{◌∙◌, ap, ◌++◌, ◌∷◌, []}
 use Rattle.kif_tree.specs.declared.form.Form.{Form}
 use Rattle.kif_tree.specs.declared.form.Form.TheVariants as form
 use Rattle.kif_tree.specs.Terms.{Bytes}
-use Rattle.type_guard.specs.Guards.{pair, guard_of}
+use Rattle.type_guard.specs.Guards.{membership, guard_of}
 use Rattle.type_guard.proofs.GatherLaws.{gathered_new, gathered_old, three_texts}
 use Rattle.type_guard.proofs.guards.add_guard.Goals as goal
 
@@ -12,7 +12,7 @@ returns-in_ok-push c =
     λ all h.
     gathered_new all c.args.guards.now c.push.new.self c.args.seen.now c.insert.new.self (c.head_of-head.result, c.bytes.result, c.bytes-2.result) (guard_of (form.Variable c.args.variable.now) c.args.told.now)
     c.in_ok-insert.field-0 texts c.in_ok-insert.ensures.added c.if-branch.true c.in_ok-insert.ensures.updates.0
-    (c.in_ok-push.ensures.ok ∙ ap (λ (g : Form). c.args.guards.now ++ g ∷ []) (c.in_ok-guard_of.ensures ∙ ap (λ (t : Bytes). pair t (form.Variable c.args.variable.now) c.args.told.now.class) c.head_of-head.ensures)) h
+    (c.in_ok-push.ensures.ok ∙ ap (λ (g : Form). c.args.guards.now ++ g ∷ []) (c.in_ok-guard_of.ensures ∙ ap (λ (t : Bytes). membership t (form.Variable c.args.variable.now) c.args.told.now.class) c.head_of-head.ensures)) h
 
 pub returns-else-branch : goal.returns-else-branch
 returns-else-branch c =
