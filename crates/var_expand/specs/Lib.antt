@@ -3,3 +3,4 @@ pub mod Conditions
 pub mod Expansion
 pub mod Fitting
 pub mod Replacement
+pub mod Search

@@ -1,0 +1,79 @@
+//! A form after a choice.
+ghost use Rattle.std.specs.Prelude.{◌≡◌, IfOk, ◌++◌, OnOk};
+ghost use Rattle.std.specs.List.{flat_map, list_any};
+ghost use Rattle.var_expand.specs.Replacement as spec;
+
+use crate::chosen::{Chosen, becomes_by};
+use kif_tree::{Form, Forms, bound, forms_equal};
+use sigma_base::{Listed, NoMemory};
+use std::alloc::Global;
+
+fn is_among(names: &[Form], variable: &Form) -> bool {
+    for name in names {
+        if forms_equal(variable, name) {
+            return true;
+        }
+    }
+    false
+}
+
+/// What remains of the choice where a quantifier lists these names.
+fn without<'a>(
+    alloc: Global,
+    names: &[Form],
+    choice: &[Chosen<'a>],
+) -> Result<Listed<Chosen<'a>>, NoMemory> {
+    let mut rest = Listed::new(alloc);
+    for chosen in choice {
+        if !is_among(names, chosen.variable) {
+            rest.push(Chosen {
+                variable: chosen.variable,
+                becomes: chosen.becomes,
+            })?;
+        }
+    }
+    Ok(rest)
+}
+
+fn append_copies(alloc: Global, forms: &mut Forms, more: &[Form]) -> Result<(), NoMemory> {
+    for form in more {
+        forms.push(form.copy(alloc)?)?;
+    }
+    Ok(())
+}
+
+/// The form with its variables and row variables replaced in all lists where they are free.
+#[cycle(replace)]
+pub fn replaced(alloc: Global, form: &Form, choice: &[Chosen]) -> Result<Form, NoMemory> {
+    let Form::List(parts) = form else {
+        return form.copy(alloc);
+    };
+    let names = bound(parts.items());
+    if names.is_empty() {
+        return Ok(Form::List(spliced(alloc, parts.items(), choice)?));
+    }
+    let rest = without(alloc, names, choice)?;
+    Ok(Form::List(spliced(alloc, parts.items(), rest.items())?))
+}
+
+#[cycle(replace)]
+fn spliced(alloc: Global, parts: &[Form], choice: &[Chosen]) -> Result<Forms, NoMemory> {
+    let mut forms = Listed::new(alloc);
+    for part in parts {
+        splice(alloc, &mut forms, part, choice)?;
+    }
+    Ok(forms)
+}
+
+#[cycle(replace)]
+fn splice(
+    alloc: Global,
+    forms: &mut Forms,
+    part: &Form,
+    choice: &[Chosen],
+) -> Result<(), NoMemory> {
+    match part {
+        Form::Variable(_) | Form::Row(_) => append_copies(alloc, forms, becomes_by(choice, part)),
+        _ => forms.push(replaced(alloc, part, choice)?),
+    }
+}
