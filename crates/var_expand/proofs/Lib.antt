@@ -1,0 +1,4 @@
+pub mod ChoiceLaws
+pub mod ConditionLaws
+pub mod ListLaws
+pub mod WordLaws

@@ -1,6 +1,10 @@
 pub mod Choices
+pub mod Chosen
 pub mod Conditions
 pub mod Expansion
 pub mod Fitting
+pub mod Gathered
+pub mod Offered
 pub mod Replacement
 pub mod Search
+pub mod Spliced

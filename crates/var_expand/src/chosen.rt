@@ -1,7 +1,8 @@
 //! What is chosen for variables, and what a form becomes by it.
 ghost use Rattle.std.specs.Prelude.{◌≡◌, IfOk, length, option_map};
+ghost use Rattle.taxonomy.specs.Told as told;
 ghost use Rattle.var_expand.specs.Choices as choices;
-ghost use Rattle.var_expand.specs.Search as spec;
+ghost use Rattle.var_expand.specs.Chosen as spec;
 
 use kif_tree::{Form, forms_equal};
 use sigma_base::{Listed, NoMemory};
@@ -61,12 +62,22 @@ pub fn length_by(choice: &[Chosen], form: &Form) -> usize
     }
 }
 
+/// The text of a word. It takes no memory.
+fn word_of(form: &Form) -> Option<&[u8]>
+    ensures { option_map (λ word. word.now) result ≡ told.word_text form.now }
+{
+    match form {
+        Form::Word(text) => Some(text.bytes()),
+        _ => None,
+    }
+}
+
 /// The word that the form becomes, if it does. It takes no memory.
 pub fn word_by<'a>(choice: &[Chosen<'a>], form: &'a Form) -> Option<&'a [u8]>
     ensures { option_map (λ word. word.now) result ≡ spec.first_word (choices.becomes_by choice.now form.now) }
 {
     match becomes_by(choice, form) {
-        [Form::Word(text), ..] => Some(text.bytes()),
+        [first, ..] => word_of(first),
         _ => None,
     }
 }

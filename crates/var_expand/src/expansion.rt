@@ -7,7 +7,7 @@ use crate::chosen::Chosen;
 use crate::gathered::gather_conditions;
 use crate::expanded::Expanded;
 use crate::fitting::Problem;
-use crate::lists::{Parts, gather_applied, gather_lists, push_if_applied};
+use crate::lists::{Parts, gather_arguments, gather_lists, gather_sentences};
 use crate::options::{offers, rows, singles, words};
 use crate::part_numbers::number_parts;
 use crate::replacement::replaced;
@@ -100,6 +100,29 @@ pub fn expand(
     expand_by(alloc, form, lists.items(), signatures, taxonomy)
 }
 
+/// The outcome by the choices that fit.
+fn solve(
+    alloc: Global,
+    form: &Form,
+    predicates: &[Form],
+    problem: &Problem,
+) -> Result<Expanded, NoMemory> {
+    let words = words(alloc, problem.signatures.relations())?;
+    let words = &words;
+    let names = singles(alloc, words.items())?;
+    let names = &names;
+    let rows = rows(alloc, problem.variables)?;
+    let rows = &rows;
+    let found = fitting(
+        alloc,
+        problem,
+        predicates.len(),
+        names.items(),
+        rows.items(),
+    )?;
+    outcome(alloc, form, predicates, found.items())
+}
+
 fn expand_by(
     alloc: Global,
     form: &Form,
@@ -108,18 +131,18 @@ fn expand_by(
     taxonomy: &Taxonomy,
 ) -> Result<Expanded, NoMemory> {
     let free = free_names(alloc, form)?;
+    let free = &free;
     let predicates = predicate_variables(alloc, free.items(), lists)?;
+    let predicates = &predicates;
     let mut variables = copy_all(alloc, predicates.items())?;
     variables.append(row_variables(alloc, free.items())?)?;
-    let mut arguments = Listed::new(alloc);
-    gather_applied(&mut arguments, false, form)?;
-    let mut sentences = Listed::new(alloc);
-    push_if_applied(&mut sentences, form)?;
-    gather_applied(&mut sentences, true, form)?;
+    let variables = &variables;
+    let arguments = gather_arguments(alloc, form)?;
+    let arguments = &arguments;
+    let sentences = gather_sentences(alloc, form)?;
+    let sentences = &sentences;
     let conditions = gather_conditions(alloc, predicates.items(), form)?;
-    let words = words(alloc, signatures.relations())?;
-    let names = singles(alloc, words.items())?;
-    let rows = rows(alloc, variables.items())?;
+    let conditions = &conditions;
     let problem = Problem {
         variables: variables.items(),
         lists,
@@ -129,12 +152,5 @@ fn expand_by(
         signatures,
         taxonomy,
     };
-    let found = fitting(
-        alloc,
-        &problem,
-        predicates.items().len(),
-        names.items(),
-        rows.items(),
-    )?;
-    outcome(alloc, form, predicates.items(), found.items())
+    solve(alloc, form, predicates.items(), &problem)
 }

@@ -1,9 +1,13 @@
 //! Whether a choice fits, and whether a choice of some of the variables may become one that fits.
-ghost use Rattle.std.specs.Prelude.{◌≡◌};
+ghost use Rattle.std.specs.Prelude.{◌≡◌, ◌+◌, ◌<◌, ◌&&◌, length, MatchOption};
+ghost use Rattle.std.specs.List.{list_all};
+ghost use Rattle.signatures.specs.declared.told.Arity.TheVariants as arity;
+ghost use Rattle.var_expand.specs.Choices.{after};
+ghost use Rattle.var_expand.specs.Search as spec;
 
 use crate::chosen::{Chosen, length_by, set_to, word_by};
 use crate::gathered::Condition;
-use crate::lists::{Parts, is_row};
+use crate::lists::{Parts, is_as, is_row};
 use kif_tree::{Form, is_function_word};
 use signatures::{Arity, Signatures};
 use taxonomy::Taxonomy;
@@ -22,7 +26,9 @@ pub struct Problem<'a> {
 }
 
 /// What is left of the count after what the forms become, unless they become more.
-fn left_over(count: usize, choice: &[Chosen], forms: &[Form]) -> Option<usize> {
+fn left_over(count: usize, choice: &[Chosen], forms: &[Form]) -> Option<usize>
+    ensures { MatchOption result (count < length (after choice.now forms.now)) (λ left. left + length (after choice.now forms.now) ≡ count) }
+{
     let mut left = count;
     for form in forms {
         let length = length_by(choice, form);
@@ -35,7 +41,9 @@ fn left_over(count: usize, choice: &[Chosen], forms: &[Form]) -> Option<usize> {
 }
 
 /// A row variable for which nothing is set yet stands among the forms.
-fn has_room(choice: &[Chosen], forms: &[Form]) -> bool {
+fn has_room(choice: &[Chosen], forms: &[Form]) -> bool
+    ensures { result ≡ spec.has_room choice.now forms.now }
+{
     for form in forms {
         if is_row(form) && set_to(choice, form).is_none() {
             return true;
@@ -44,15 +52,19 @@ fn has_room(choice: &[Chosen], forms: &[Form]) -> bool {
     false
 }
 
-fn takes(count: u32, choice: &[Chosen], open: bool, arguments: &[Form]) -> bool {
+fn takes(count: u32, choice: &[Chosen], partly: bool, arguments: &[Form]) -> bool
+    ensures { result ≡ spec.takes_by (arity.Exactly count) (length (after choice.now arguments.now)) (partly && spec.has_room choice.now arguments.now) }
+{
     match left_over(count as usize, choice, arguments) {
         None => false,
         Some(0) => true,
-        Some(_) => open && has_room(choice, arguments),
+        Some(_) => partly && has_room(choice, arguments),
     }
 }
 
-fn count_fits(signatures: &Signatures, choice: &[Chosen], open: bool, parts: &[Form]) -> bool {
+fn count_fits(signatures: &Signatures, choice: &[Chosen], partly: bool, parts: &[Form]) -> bool
+    ensures { result ≡ spec.count_passes signatures.now partly choice.now parts.now }
+{
     let [head, arguments @ ..] = parts else {
         return true;
     };
@@ -60,45 +72,53 @@ fn count_fits(signatures: &Signatures, choice: &[Chosen], open: bool, parts: &[F
         return true;
     };
     match signatures.arity(word) {
-        Arity::Exactly(count) => takes(count, choice, open, arguments),
+        Arity::Exactly(count) => takes(count, choice, partly, arguments),
         Arity::Any | Arity::Unstated => true,
     }
 }
 
-fn name_fits(choice: &[Chosen], open: bool, function: bool, parts: &[Form]) -> bool {
+fn name_fits(choice: &[Chosen], partly: bool, function: bool, parts: &[Form]) -> bool
+    ensures { result ≡ spec.name_passes partly function choice.now parts.now }
+{
     let [head, ..] = parts else {
-        return open || !function;
+        return partly || !function;
     };
     match word_by(choice, head) {
-        Some(word) => is_function_word(word) == function,
-        None => open || !function,
+        Some(word) => is_as(function, is_function_word(word)),
+        None => partly || !function,
     }
 }
 
 fn condition_fits(
     taxonomy: &Taxonomy,
     choice: &[Chosen],
-    open: bool,
+    partly: bool,
     condition: &Condition,
-) -> bool {
+) -> bool
+    ensures { result ≡ spec.condition_passes taxonomy.now.links partly choice.now condition.now }
+{
     match (word_by(choice, condition.low), word_by(choice, condition.high)) {
         (Some(low), Some(high)) => taxonomy.is_above(condition.kind, low, high),
-        _ => open,
+        _ => partly,
     }
 }
 
-fn counts_fit(signatures: &Signatures, choice: &[Chosen], open: bool, lists: &[Parts]) -> bool {
+fn counts_fit(signatures: &Signatures, choice: &[Chosen], partly: bool, lists: &[Parts]) -> bool
+    ensures { result ≡ list_all (spec.count_passes signatures.now partly choice.now) lists.now }
+{
     for list in lists {
-        if !count_fits(signatures, choice, open, list.forms) {
+        if !count_fits(signatures, choice, partly, list.forms) {
             return false;
         }
     }
     true
 }
 
-fn names_fit(choice: &[Chosen], open: bool, function: bool, lists: &[Parts]) -> bool {
+fn names_fit(choice: &[Chosen], partly: bool, function: bool, lists: &[Parts]) -> bool
+    ensures { result ≡ list_all (spec.name_passes partly function choice.now) lists.now }
+{
     for list in lists {
-        if !name_fits(choice, open, function, list.forms) {
+        if !name_fits(choice, partly, function, list.forms) {
             return false;
         }
     }
@@ -108,21 +128,25 @@ fn names_fit(choice: &[Chosen], open: bool, function: bool, lists: &[Parts]) -> 
 fn conditions_fit(
     taxonomy: &Taxonomy,
     choice: &[Chosen],
-    open: bool,
+    partly: bool,
     conditions: &[Condition],
-) -> bool {
+) -> bool
+    ensures { result ≡ list_all (spec.condition_passes taxonomy.now.links partly choice.now) conditions.now }
+{
     for condition in conditions {
-        if !condition_fits(taxonomy, choice, open, condition) {
+        if !condition_fits(taxonomy, choice, partly, condition) {
             return false;
         }
     }
     true
 }
 
-/// Whether the choice fits, or, where it is open, may fit once more is set. It takes no memory.
-pub fn passes(problem: &Problem, choice: &[Chosen], open: bool) -> bool {
-    names_fit(choice, open, true, problem.arguments)
-        && names_fit(choice, open, false, problem.sentences)
-        && conditions_fit(problem.taxonomy, choice, open, problem.conditions)
-        && counts_fit(problem.signatures, choice, open, problem.lists)
+/// Whether the choice fits, or, where it is partly, may fit once more is set. It takes no memory.
+pub fn passes(problem: &Problem, choice: &[Chosen], partly: bool) -> bool
+    ensures { result ≡ spec.passes problem.now partly choice.now }
+{
+    names_fit(choice, partly, true, problem.arguments)
+        && names_fit(choice, partly, false, problem.sentences)
+        && conditions_fit(problem.taxonomy, choice, partly, problem.conditions)
+        && counts_fit(problem.signatures, choice, partly, problem.lists)
 }

@@ -1,5 +1,5 @@
 //! The lists of a form that a choice has to fit.
-ghost use Rattle.std.specs.Prelude.{◌≡◌, ◌++◌, filter, OnOk, not};
+ghost use Rattle.std.specs.Prelude.{◌≡◌, ◌++◌, true, false, filter, IfOk, OnOk};
 ghost use Rattle.std.specs.List.{list_any, flat_map};
 ghost use Rattle.kif_tree.specs.Profile as profile;
 ghost use Rattle.var_expand.specs.Choices as choices;
@@ -8,6 +8,7 @@ ghost use Rattle.var_expand.specs.Gathered as spec;
 
 use kif_tree::{Form, is_logical_word, operands, parts_of};
 use sigma_base::{Listed, NoMemory};
+use std::alloc::Global;
 use std::marker::Model;
 
 /// Some forms in a row, as the parts of a list.
@@ -80,6 +81,7 @@ fn push_if_varies<'a>(lists: &mut Listed<Parts<'a>>, parts: &'a [Form]) -> Resul
 }
 
 /// Adds the lists of the form that vary, in order.
+#[tactic(auto, using(kif_tree::specs::CompoundLaws::compounds_laws))]
 pub fn gather_lists<'a>(lists: &mut Listed<Parts<'a>>, form: &'a Form) -> Result<(), NoMemory>
     ensures { OnOk result (lists.new ≡ lists.old ++ filter fitting.varies (profile.compounds form.now)) }
 {
@@ -93,6 +95,13 @@ pub fn gather_lists<'a>(lists: &mut Listed<Parts<'a>>, form: &'a Form) -> Result
     Ok(())
 }
 
+/// The answer of a test is the one that is wanted.
+pub fn is_as(wanted: bool, answer: bool) -> bool
+    ensures { result ≡ spec.is_as wanted answer }
+{
+    if wanted { answer } else { !answer }
+}
+
 fn is_logical(parts: &[Form]) -> bool
     ensures { result ≡ profile.is_logical parts.now }
 {
@@ -103,7 +112,7 @@ fn is_logical(parts: &[Form]) -> bool
 }
 
 /// Adds the list where a variable heads it.
-pub fn push_if_applied<'a>(lists: &mut Listed<Parts<'a>>, form: &'a Form) -> Result<(), NoMemory>
+fn push_if_applied<'a>(lists: &mut Listed<Parts<'a>>, form: &'a Form) -> Result<(), NoMemory>
     ensures { OnOk result (lists.new ≡ lists.old ++ spec.if_applied form.now) }
 {
     let parts = parts_of(form);
@@ -122,8 +131,9 @@ fn push_applied<'a>(lists: &mut Listed<Parts<'a>>, forms: &'a [Form]) -> Result<
     Ok(())
 }
 
+#[tactic(auto, using(kif_tree::specs::CompoundLaws::compounds_laws))]
 /// Adds the lists headed by a variable that stand below logical words, or those below other heads.
-pub fn gather_applied<'a>(
+fn gather_applied<'a>(
     lists: &mut Listed<Parts<'a>>,
     logical: bool,
     form: &'a Form,
@@ -133,11 +143,30 @@ pub fn gather_applied<'a>(
     let Form::List(parts) = form else {
         return Ok(());
     };
-    if is_logical(parts.items()) == logical {
+    if is_as(logical, is_logical(parts.items())) {
         push_applied(lists, operands(parts.items()))?;
     }
     for part in operands(parts.items()) {
         gather_applied(lists, logical, part)?;
     }
     Ok(())
+}
+
+/// The lists headed by a variable in argument place.
+pub fn gather_arguments<'a>(alloc: Global, form: &'a Form) -> Result<Listed<Parts<'a>>, NoMemory>
+    ensures { IfOk result (λ lists. lists ≡ flat_map (spec.applied_below false) (profile.compounds form.now)) }
+{
+    let mut lists = Listed::new(alloc);
+    gather_applied(&mut lists, false, form)?;
+    Ok(lists)
+}
+
+/// The lists headed by a variable in sentence place.
+pub fn gather_sentences<'a>(alloc: Global, form: &'a Form) -> Result<Listed<Parts<'a>>, NoMemory>
+    ensures { IfOk result (λ lists. lists ≡ spec.if_applied form.now ++ flat_map (spec.applied_below true) (profile.compounds form.now)) }
+{
+    let mut lists = Listed::new(alloc);
+    push_if_applied(&mut lists, form)?;
+    gather_applied(&mut lists, true, form)?;
+    Ok(lists)
 }

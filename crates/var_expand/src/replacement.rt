@@ -1,14 +1,18 @@
 //! A form after a choice.
 ghost use Rattle.std.specs.Prelude.{◌≡◌, IfOk, ◌++◌, OnOk};
 ghost use Rattle.std.specs.List.{flat_map, list_any};
+ghost use Rattle.kif_tree.specs.Terms.{same};
 ghost use Rattle.var_expand.specs.Replacement as spec;
+ghost use Rattle.var_expand.specs.Spliced.{spliced_part};
 
 use crate::chosen::{Chosen, becomes_by};
 use kif_tree::{Form, Forms, bound, forms_equal};
 use sigma_base::{Listed, NoMemory};
 use std::alloc::Global;
 
-fn is_among(names: &[Form], variable: &Form) -> bool {
+fn is_among(names: &[Form], variable: &Form) -> bool
+    ensures { result ≡ list_any (same variable.now) names.now }
+{
     for name in names {
         if forms_equal(variable, name) {
             return true;
@@ -22,7 +26,9 @@ fn without<'a>(
     alloc: Global,
     names: &[Form],
     choice: &[Chosen<'a>],
-) -> Result<Listed<Chosen<'a>>, NoMemory> {
+) -> Result<Listed<Chosen<'a>>, NoMemory>
+    ensures { IfOk result (λ rest. rest ≡ spec.without names.now choice.now) }
+{
     let mut rest = Listed::new(alloc);
     for chosen in choice {
         if !is_among(names, chosen.variable) {
@@ -35,7 +41,9 @@ fn without<'a>(
     Ok(rest)
 }
 
-fn append_copies(alloc: Global, forms: &mut Forms, more: &[Form]) -> Result<(), NoMemory> {
+fn append_copies(alloc: Global, forms: &mut Forms, more: &[Form]) -> Result<(), NoMemory>
+    ensures { OnOk result (forms.new ≡ forms.old ++ more.now) }
+{
     for form in more {
         forms.push(form.copy(alloc)?)?;
     }
@@ -44,7 +52,9 @@ fn append_copies(alloc: Global, forms: &mut Forms, more: &[Form]) -> Result<(), 
 
 /// The form with its variables and row variables replaced in all lists where they are free.
 #[cycle(replace)]
-pub fn replaced(alloc: Global, form: &Form, choice: &[Chosen]) -> Result<Form, NoMemory> {
+pub fn replaced(alloc: Global, form: &Form, choice: &[Chosen]) -> Result<Form, NoMemory>
+    ensures { IfOk result (λ replaced. replaced ≡ spec.replaced form.now choice.now) }
+{
     let Form::List(parts) = form else {
         return form.copy(alloc);
     };
@@ -57,7 +67,9 @@ pub fn replaced(alloc: Global, form: &Form, choice: &[Chosen]) -> Result<Form, N
 }
 
 #[cycle(replace)]
-fn spliced(alloc: Global, parts: &[Form], choice: &[Chosen]) -> Result<Forms, NoMemory> {
+fn spliced(alloc: Global, parts: &[Form], choice: &[Chosen]) -> Result<Forms, NoMemory>
+    ensures { IfOk result (λ spliced. spliced ≡ flat_map (spliced_part choice.now) parts.now) }
+{
     let mut forms = Listed::new(alloc);
     for part in parts {
         splice(alloc, &mut forms, part, choice)?;
@@ -71,7 +83,9 @@ fn splice(
     forms: &mut Forms,
     part: &Form,
     choice: &[Chosen],
-) -> Result<(), NoMemory> {
+) -> Result<(), NoMemory>
+    ensures { OnOk result (forms.new ≡ forms.old ++ spliced_part choice.now part.now) }
+{
     match part {
         Form::Variable(_) | Form::Row(_) => append_copies(alloc, forms, becomes_by(choice, part)),
         _ => forms.push(replaced(alloc, part, choice)?),

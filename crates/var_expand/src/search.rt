@@ -1,4 +1,8 @@
 //! The search for the choices that fit, in order of the choices.
+ghost use Rattle.std.specs.Prelude.{◌≡◌, ◌++◌, ◌∷◌, [], true, false, map, filter, IfOk, OnOk};
+ghost use Rattle.var_expand.specs.Choices.{sets};
+ghost use Rattle.var_expand.specs.Search as spec;
+
 use crate::chosen::{Chosen, copied, set_to};
 use crate::fitting::{Problem, passes};
 use crate::options::Offer;
@@ -13,7 +17,9 @@ fn push<'a>(
     choice: &mut Vec<Chosen<'a>>,
     variable: &'a Form,
     becomes: &'a [Form],
-) -> Result<(), NoMemory> {
+) -> Result<(), NoMemory>
+    ensures { OnOk result (choice.new.items ≡ choice.old.items ++ sets variable.now becomes.now ∷ []) }
+{
     choice
         .push(Chosen { variable, becomes })
         .map_err(AllocError::from)?;
@@ -27,7 +33,10 @@ fn passes_with<'a>(
     choice: &mut Vec<Chosen<'a>>,
     variable: &'a Form,
     becomes: &'a [Form],
-) -> Result<bool, NoMemory> {
+) -> Result<bool, NoMemory>
+    ensures same { OnOk result (choice.new.items ≡ choice.old.items) }
+    ensures test { IfOk result (λ may. may ≡ spec.passes problem.now true (choice.old.items ++ sets variable.now becomes.now ∷ [])) }
+{
     push(choice, variable, becomes)?;
     let may = passes(problem, choice.as_slice(), true);
     choice.pop();
@@ -38,7 +47,11 @@ fn has_option<'a>(
     problem: &Problem<'a>,
     choice: &mut Vec<Chosen<'a>>,
     offer: &Offer<'a>,
-) -> Result<bool, NoMemory> {
+) -> Result<bool, NoMemory>
+    requires { spec.IsOffer problem.now offer.now }
+    ensures same { OnOk result (choice.new.items ≡ choice.old.items) }
+    ensures sound { IfOk result (λ has. has ≡ false → spec.IsHopeless problem.now choice.old.items) }
+{
     for option in offer.allowed.items() {
         if passes_with(problem, choice, offer.variable, option.forms)? {
             return Ok(true);
@@ -58,7 +71,11 @@ fn have_options<'a>(
     choice: &mut Vec<Chosen<'a>>,
     offers: &[Offer<'a>],
     part: usize,
-) -> Result<bool, NoMemory> {
+) -> Result<bool, NoMemory>
+    requires { spec.AreOffers problem.now offers.now }
+    ensures same { OnOk result (choice.new.items ≡ choice.old.items) }
+    ensures sound { IfOk result (λ have. have ≡ false → spec.IsHopeless problem.now choice.old.items) }
+{
     for offer in offers {
         if is_waiting(choice.as_slice(), offer, part) && !has_option(problem, choice, offer)? {
             return Ok(false);
@@ -76,7 +93,12 @@ fn completes_with<'a>(
     offers: &[Offer<'a>],
     last: &[Offer<'a>],
     part: usize,
-) -> Result<bool, NoMemory> {
+) -> Result<bool, NoMemory>
+    requires offers { spec.AreOffers problem.now offers.now }
+    requires last { spec.AreOffers problem.now last.now }
+    ensures same { OnOk result (choice.new.items ≡ choice.old.items) }
+    ensures sound { IfOk result (λ can. can ≡ false → spec.IsHopeless problem.now (choice.old.items ++ sets variable.now becomes.now ∷ [])) }
+{
     push(choice, variable, becomes)?;
     let can = passes(problem, choice.as_slice(), true)
         && have_options(problem, choice, offers, part)?
@@ -94,7 +116,12 @@ fn completes<'a>(
     offers: &[Offer<'a>],
     last: &[Offer<'a>],
     part: usize,
-) -> Result<bool, NoMemory> {
+) -> Result<bool, NoMemory>
+    requires offers { spec.AreOffers problem.now offers.now }
+    requires last { spec.AreOffers problem.now last.now }
+    ensures same { OnOk result (choice.new.items ≡ choice.old.items) }
+    ensures sound { IfOk result (λ can. can ≡ false → spec.IsHopeless problem.now choice.old.items) }
+{
     let [offer, more @ ..] = offers else {
         if last.is_empty() {
             return Ok(true);
@@ -127,7 +154,11 @@ pub fn parts_complete<'a>(
     names: &[Offer<'a>],
     rows: &[Offer<'a>],
     parts: &[usize],
-) -> Result<bool, NoMemory> {
+) -> Result<bool, NoMemory>
+    requires names { spec.AreOffers problem.now names.now }
+    requires rows { spec.AreOffers problem.now rows.now }
+    ensures { IfOk result (λ complete. complete ≡ false → spec.IsHopeless problem.now []) }
+{
     let mut choice = Vec::new(alloc);
     for part in parts {
         if !completes(problem, &mut choice, rows, names, *part)? {
@@ -151,7 +182,12 @@ fn goes_on<'a>(
     offers: &Offers<'_, 'a>,
     choice: &mut Vec<Chosen<'a>>,
     part: usize,
-) -> Result<bool, NoMemory> {
+) -> Result<bool, NoMemory>
+    requires names { spec.AreOffers problem.now offers.now.names.now }
+    requires rows { spec.AreOffers problem.now offers.now.rows.now }
+    ensures same { OnOk result (choice.new.items ≡ choice.old.items) }
+    ensures sound { IfOk result (λ on. on ≡ false → spec.IsHopeless problem.now choice.old.items) }
+{
     Ok(passes(problem, choice.as_slice(), true)
         && completes(problem, choice, offers.rows, offers.names, part)?)
 }
@@ -161,7 +197,9 @@ fn keep<'a>(
     problem: &Problem<'a>,
     choice: &[Chosen<'a>],
     found: &mut Listed<Listed<Chosen<'a>>>,
-) -> Result<(), NoMemory> {
+) -> Result<(), NoMemory>
+    ensures { OnOk result (found.new ≡ spec.filled found.old (filter (spec.passes problem.now false) (choice.now ∷ []))) }
+{
     if found.items().len() <= MOST && passes(problem, choice, false) {
         found.push(copied(alloc, choice)?)?;
     }
@@ -178,7 +216,14 @@ fn grow_with<'a>(
     becomes: &'a [Form],
     more: &[Offer<'a>],
     found: &mut Listed<Listed<Chosen<'a>>>,
-) -> Result<(), NoMemory> {
+) -> Result<(), NoMemory>
+    requires names { spec.AreOffers problem.now offers.now.names.now }
+    requires rows { spec.AreOffers problem.now offers.now.rows.now }
+    requires more { spec.AreOffers problem.now more.now }
+    requires begun { spec.IsBegun problem.now (choice.old.items ++ sets offer.now.variable becomes.now ∷ []) (map spec.offered_variable more.now) }
+    ensures same { OnOk result (choice.new.items ≡ choice.old.items) }
+    ensures found { OnOk result (found.new ≡ spec.filled found.old (spec.fitting problem.now (choice.old.items ++ sets offer.now.variable becomes.now ∷ []) (map spec.offered_variable more.now))) }
+{
     if found.items().len() > MOST {
         return Ok(());
     }
@@ -199,7 +244,14 @@ pub fn grow<'a>(
     choice: &mut Vec<Chosen<'a>>,
     rest: &[Offer<'a>],
     found: &mut Listed<Listed<Chosen<'a>>>,
-) -> Result<(), NoMemory> {
+) -> Result<(), NoMemory>
+    requires names { spec.AreOffers problem.now offers.now.names.now }
+    requires rows { spec.AreOffers problem.now offers.now.rows.now }
+    requires rest { spec.AreOffers problem.now rest.now }
+    requires begun { spec.IsBegun problem.now choice.old.items (map spec.offered_variable rest.now) }
+    ensures same { OnOk result (choice.new.items ≡ choice.old.items) }
+    ensures found { OnOk result (found.new ≡ spec.filled found.old (spec.fitting problem.now choice.old.items (map spec.offered_variable rest.now))) }
+{
     let [offer, more @ ..] = rest else {
         return keep(alloc, problem, choice.as_slice(), found);
     };

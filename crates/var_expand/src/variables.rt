@@ -1,19 +1,25 @@
 //! The variables for which something is chosen.
-ghost use Rattle.std.specs.Prelude.{◌≡◌, IfOk};
+ghost use Rattle.std.specs.Prelude.{◌≡◌, ◌&&◌, IfOk, filter};
+ghost use Rattle.std.specs.List.{list_any};
+ghost use Rattle.var_expand.specs.Choices as choices;
 
 use crate::lists::{Parts, is_row, is_variable};
 use kif_tree::{Form, Forms, forms_equal};
 use sigma_base::{Listed, NoMemory};
 use std::alloc::Global;
 
-fn begins_with(head: &Form, parts: &[Form]) -> bool {
+fn begins_with(head: &Form, parts: &[Form]) -> bool
+    ensures { result ≡ choices.begins_with head.now parts.now }
+{
     match parts {
         [first, ..] => forms_equal(head, first),
         _ => false,
     }
 }
 
-fn heads_one(name: &Form, lists: &[Parts]) -> bool {
+fn heads_one(name: &Form, lists: &[Parts]) -> bool
+    ensures { result ≡ list_any (choices.begins_with name.now) lists.now }
+{
     for list in lists {
         if begins_with(name, list.forms) {
             return true;
@@ -27,7 +33,9 @@ pub fn predicate_variables(
     alloc: Global,
     names: &[Form],
     lists: &[Parts],
-) -> Result<Forms, NoMemory> {
+) -> Result<Forms, NoMemory>
+    ensures { IfOk result (λ predicates. predicates ≡ filter (λ name. choices.is_variable name && list_any (choices.begins_with name) lists.now) names.now) }
+{
     let mut predicates = Listed::new(alloc);
     for name in names {
         if is_variable(name) && heads_one(name, lists) {
@@ -38,7 +46,9 @@ pub fn predicate_variables(
 }
 
 /// The row variables among the names.
-pub fn row_variables(alloc: Global, names: &[Form]) -> Result<Forms, NoMemory> {
+pub fn row_variables(alloc: Global, names: &[Form]) -> Result<Forms, NoMemory>
+    ensures { IfOk result (λ rows. rows ≡ filter choices.is_row names.now) }
+{
     let mut rows = Listed::new(alloc);
     for name in names {
         if is_row(name) {

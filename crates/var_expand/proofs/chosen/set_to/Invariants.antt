@@ -1,5 +1,5 @@
 use Rattle.std.proofs.Common.{◌≡◌, ℕ, length}
-use Rattle.var_expand.specs.Search.{set_to}
+use Rattle.var_expand.specs.Chosen.{set_to}
 use Rattle.var_expand.proofs.chosen.set_to.Given as goal
 
 abbrev pub invariant-loop-choice : goal.invariant-loop-choice

@@ -1,0 +1,2 @@
+-- What gathered conditions are.
+use Rattle.std.proofs.Common.{◌≡◌, List, [], ◌∷◌, refl}
