@@ -1,4 +1,9 @@
+pub mod AgreeLaws
 pub mod ChoiceLaws
 pub mod ConditionLaws
+pub mod GatherLaws
+pub mod GrowLaws
 pub mod ListLaws
+pub mod MemberLaws
+pub mod SoundLaws
 pub mod WordLaws

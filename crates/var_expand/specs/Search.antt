@@ -1,5 +1,5 @@
 -- What the search for choices that fit asks of a choice of some of the variables.
-use Rattle.std.specs.Prelude.{◌≡◌, ℕ, ◌-◌, List, [], ◌∷◌, ◌++◌, map, filter, length, take, Bool, true, false, not, ◌&&◌, ◌||◌, nat_eq, nat_lt, Option, Some, None, is_some, if◌then◌else◌, Contains}
+use Rattle.std.specs.Prelude.{◌≡◌, ℕ, ◌-◌, ◌⊎◌, List, [], ◌∷◌, ◌++◌, map, filter, length, take, Bool, true, false, not, ◌&&◌, ◌||◌, nat_eq, nat_lt, Option, Some, None, is_some, if◌then◌else◌}
 use Rattle.std.specs.List.{list_all, list_any}
 use Rattle.kif_tree.specs.declared.form.Form.{Form, out-Form}
 use Rattle.kif_tree.specs.declared.form.Form.TheOpen.{Form-F}
@@ -18,7 +18,7 @@ use Rattle.var_expand.specs.Gathered.{Demand, is_as}
 use Rattle.var_expand.specs.Offered.{Offered}
 use Rattle.var_expand.specs.declared.fitting.Problem.{Problem}
 
--- ---- tests of a choice. Where it is partly, more may be set, and what isn't set yet passes
+-- ---- tests of a choice. Where it is one of some variables, what isn't set yet passes
 
 -- a row variable for which nothing is set stands among the forms
 abbrev pub has_room : Choice → List Form → Bool
@@ -58,10 +58,10 @@ condition_passes links partly choice demand = words_lead links partly demand (fi
 
 unfoldable pub passes : Problem → Bool → Choice → Bool
 passes problem partly choice =
-    list_all (name_passes partly true choice) problem.arguments.now
-    && (list_all (name_passes partly false choice) problem.sentences.now
-    && (list_all (condition_passes problem.taxonomy.now.links partly choice) problem.conditions.now
-    && list_all (count_passes problem.signatures.now partly choice) problem.lists.now))
+    list_all (name_passes partly true choice) problem.arguments
+    && (list_all (name_passes partly false choice) problem.sentences
+    && (list_all (condition_passes problem.taxonomy.now.links partly choice) problem.conditions
+    && list_all (count_passes problem.signatures.now partly choice) problem.lists))
 
 -- ---- what variables may become
 
@@ -82,6 +82,11 @@ may_be_set f = is_variable f || is_row f
 
 -- ---- choices of all variables, and of some
 
+-- x is one of the list
+abbrev pub Has : {X : Type 0} → List X → X → Type 0
+Has [] x = ⊥
+Has (y ∷ ys) x = (y ≡ x) ⊎ Has ys x
+
 abbrev pub relations_of : Problem → List Bytes
 relations_of problem = relations_in problem.signatures.now
 
@@ -90,11 +95,11 @@ variable_of setting = setting.variable
 
 -- each variable becomes one of its options
 abbrev pub IsDrawn : List Bytes → Choice → Type 0
-IsDrawn relations choice = Each (λ (setting : Setting). Contains (options relations setting.variable) setting.becomes) choice
+IsDrawn relations choice = Each (λ (setting : Setting). Has (options relations setting.variable) setting.becomes) choice
 
 -- the choice is one for all variables of the problem
 pub record IsWhole (problem : Problem) (choice : Choice) : Type 0 where
-  pub covers : map variable_of choice ≡ problem.variables.now
+  pub covers : map variable_of choice ≡ problem.variables
   pub drawn : IsDrawn (relations_of problem) choice
 
 -- what the one sets, the other one sets to the same
@@ -115,7 +120,7 @@ abbrev pub offered : Problem → Form → Offered
 offered problem variable = record { variable = variable; allowed = filter (keeps problem variable) (options (relations_of problem) variable) }
 
 pub record IsOffer (problem : Problem) (offer : Offered) : Type 0 where
-  pub is_variable : Contains problem.variables.now offer.variable
+  pub is_variable : Has problem.variables offer.variable
   pub allows : offer.allowed ≡ filter (keeps problem offer.variable) (options (relations_of problem) offer.variable)
 
 abbrev pub AreOffers : Problem → List Offered → Type 0
@@ -141,6 +146,6 @@ AreDistinct (f ∷ fs) = (list_any (same f) fs ≡ false) × AreDistinct fs
 
 -- the variables of the choice and then those left are all of the problem, each once
 pub record IsBegun (problem : Problem) (choice : Choice) (left : List Form) : Type 0 where
-  pub covers : map variable_of choice ++ left ≡ problem.variables.now
-  pub distinct : AreDistinct problem.variables.now
+  pub covers : map variable_of choice ++ left ≡ problem.variables
+  pub distinct : AreDistinct problem.variables
   pub drawn : IsDrawn (relations_of problem) choice

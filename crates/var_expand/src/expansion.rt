@@ -8,7 +8,7 @@ use crate::gathered::gather_conditions;
 use crate::expanded::Expanded;
 use crate::fitting::Problem;
 use crate::lists::{Parts, gather_arguments, gather_lists, gather_sentences};
-use crate::options::{offers, rows, singles, words};
+use crate::options::{Offer, offers, rows, singles, words};
 use crate::part_numbers::number_parts;
 use crate::replacement::replaced;
 use crate::search::{MOST, Offers, grow, parts_complete};
@@ -22,18 +22,35 @@ use taxonomy::Taxonomy;
 /// The choices that fit, in order, but no more than 20,001.
 fn fitting<'a>(
     alloc: Global,
-    problem: &Problem<'a>,
+    problem: &Problem,
     predicates: usize,
-    names: &[Parts<'a>],
+    variables: &'a [Form],
+    words: &'a [Form],
     rows: &'a [Forms],
 ) -> Result<Listed<Listed<Chosen<'a>>>, NoMemory> {
     let parts = number_parts(alloc, problem)?;
-    let offers = offers(alloc, problem, names, rows, parts.as_slice())?;
+    let parts = parts.as_slice();
+    let names = singles(alloc, words)?;
+    let offers = offers(alloc, problem, variables, names.items(), rows, parts)?;
     let mut found = Listed::new(alloc);
-    let all = offers.items();
-    let (names, rows) = all.split_at(predicates.min(all.len()));
-    if !parts_complete(alloc, problem, names, rows, parts.as_slice())? {
-        return Ok(found);
+    find(alloc, problem, predicates, offers.items(), parts, &mut found)?;
+    Ok(found)
+}
+
+/// Adds the choices that fit and are offered, but no more than 20,001.
+fn find<'a>(
+    alloc: Global,
+    problem: &Problem,
+    predicates: usize,
+    offers: &[Offer<'a>],
+    parts: &[usize],
+    found: &mut Listed<Listed<Chosen<'a>>>,
+) -> Result<(), NoMemory> {
+    let middle = predicates.min(offers.len());
+    let names = &offers[..middle];
+    let rows = &offers[middle..];
+    if !parts_complete(alloc, problem, names, rows, parts)? {
+        return Ok(());
     }
     let mut choice = Vec::new(alloc);
     grow(
@@ -41,10 +58,9 @@ fn fitting<'a>(
         problem,
         &Offers { names, rows },
         &mut choice,
-        all,
-        &mut found,
-    )?;
-    Ok(found)
+        offers,
+        found,
+    )
 }
 
 fn variants(
@@ -97,7 +113,7 @@ pub fn expand(
     if lists.items().is_empty() && has_no_row(form) {
         return only_variant(alloc, form);
     }
-    expand_by(alloc, form, lists.items(), signatures, taxonomy)
+    expand_by(alloc, form, lists, signatures, taxonomy)
 }
 
 /// The outcome by the choices that fit.
@@ -107,50 +123,64 @@ fn solve(
     predicates: &[Form],
     problem: &Problem,
 ) -> Result<Expanded, NoMemory> {
+    let variables = copy_all(alloc, problem.variables.items())?;
     let words = words(alloc, problem.signatures.relations())?;
-    let words = &words;
-    let names = singles(alloc, words.items())?;
-    let names = &names;
-    let rows = rows(alloc, problem.variables)?;
-    let rows = &rows;
+    let rows = rows(alloc, variables.items())?;
     let found = fitting(
         alloc,
         problem,
         predicates.len(),
-        names.items(),
+        variables.items(),
+        words.items(),
         rows.items(),
     )?;
     outcome(alloc, form, predicates, found.items())
 }
 
-fn expand_by(
+/// What the form asks of a choice, where these are its predicate variables and row variables.
+fn problem_of<'f, 's, 't>(
     alloc: Global,
-    form: &Form,
-    lists: &[Parts],
+    form: &'f Form,
+    lists: Listed<Parts<'f>>,
+    predicates: &[Form],
+    rows: Forms,
+    signatures: &'s Signatures,
+    taxonomy: &'t Taxonomy,
+) -> Result<Problem<'f, 's, 't>, NoMemory> {
+    let arguments = gather_arguments(alloc, form)?;
+    let sentences = gather_sentences(alloc, form)?;
+    let conditions = gather_conditions(alloc, predicates, form)?;
+    let mut variables = copy_all(alloc, predicates)?;
+    variables.append(rows)?;
+    Ok(Problem {
+        variables,
+        lists,
+        arguments,
+        sentences,
+        conditions,
+        signatures,
+        taxonomy,
+    })
+}
+
+fn expand_by<'f>(
+    alloc: Global,
+    form: &'f Form,
+    lists: Listed<Parts<'f>>,
     signatures: &Signatures,
     taxonomy: &Taxonomy,
 ) -> Result<Expanded, NoMemory> {
     let free = free_names(alloc, form)?;
-    let free = &free;
-    let predicates = predicate_variables(alloc, free.items(), lists)?;
-    let predicates = &predicates;
-    let mut variables = copy_all(alloc, predicates.items())?;
-    variables.append(row_variables(alloc, free.items())?)?;
-    let variables = &variables;
-    let arguments = gather_arguments(alloc, form)?;
-    let arguments = &arguments;
-    let sentences = gather_sentences(alloc, form)?;
-    let sentences = &sentences;
-    let conditions = gather_conditions(alloc, predicates.items(), form)?;
-    let conditions = &conditions;
-    let problem = Problem {
-        variables: variables.items(),
+    let predicates = predicate_variables(alloc, free.items(), lists.items())?;
+    let rows = row_variables(alloc, free.items())?;
+    let problem = problem_of(
+        alloc,
+        form,
         lists,
-        arguments: arguments.items(),
-        sentences: sentences.items(),
-        conditions: conditions.items(),
+        predicates.items(),
+        rows,
         signatures,
         taxonomy,
-    };
+    )?;
     solve(alloc, form, predicates.items(), &problem)
 }

@@ -8,21 +8,22 @@ ghost use Rattle.var_expand.specs.Search as spec;
 use crate::chosen::{Chosen, length_by, set_to, word_by};
 use crate::gathered::Condition;
 use crate::lists::{Parts, is_as, is_row};
-use kif_tree::{Form, is_function_word};
+use kif_tree::{Form, Forms, is_function_word};
+use sigma_base::Listed;
 use signatures::{Arity, Signatures};
 use taxonomy::Taxonomy;
 
 /// What a form asks of a choice: the variables that it sets, the lists that vary, those headed by variables in argument place
 /// and in sentence place, and the conditions.
 #[derive(Debug, Drop)]
-pub struct Problem<'a> {
-    pub variables: &'a [Form],
-    pub lists: &'a [Parts<'a>],
-    pub arguments: &'a [Parts<'a>],
-    pub sentences: &'a [Parts<'a>],
-    pub conditions: &'a [Condition<'a>],
-    pub signatures: &'a Signatures,
-    pub taxonomy: &'a Taxonomy,
+pub struct Problem<'f, 's, 't> {
+    pub variables: Forms,
+    pub lists: Listed<Parts<'f>>,
+    pub arguments: Listed<Parts<'f>>,
+    pub sentences: Listed<Parts<'f>>,
+    pub conditions: Listed<Condition<'f>>,
+    pub signatures: &'s Signatures,
+    pub taxonomy: &'t Taxonomy,
 }
 
 /// What is left of the count after what the forms become, unless they become more.
@@ -141,12 +142,13 @@ fn conditions_fit(
     true
 }
 
-/// Whether the choice fits, or, where it is partly, may fit once more is set. It takes no memory.
+/// Whether the choice fits, or, where it is one of some variables, may fit once more is set. It takes no memory.
+#[tactic(auto, unfolding(crate::specs::Search::passes))]
 pub fn passes(problem: &Problem, choice: &[Chosen], partly: bool) -> bool
     ensures { result ≡ spec.passes problem.now partly choice.now }
 {
-    names_fit(choice, partly, true, problem.arguments)
-        && names_fit(choice, partly, false, problem.sentences)
-        && conditions_fit(problem.taxonomy, choice, partly, problem.conditions)
-        && counts_fit(problem.signatures, choice, partly, problem.lists)
+    names_fit(choice, partly, true, problem.arguments.items())
+        && names_fit(choice, partly, false, problem.sentences.items())
+        && conditions_fit(problem.taxonomy, choice, partly, problem.conditions.items())
+        && counts_fit(problem.signatures, choice, partly, problem.lists.items())
 }

@@ -81,7 +81,7 @@ fn push_if_varies<'a>(lists: &mut Listed<Parts<'a>>, parts: &'a [Form]) -> Resul
 }
 
 /// Adds the lists of the form that vary, in order.
-#[tactic(auto, using(kif_tree::specs::CompoundLaws::compounds_laws))]
+#[tactic(auto, using(crate::proofs::GatherLaws::gather_laws))]
 pub fn gather_lists<'a>(lists: &mut Listed<Parts<'a>>, form: &'a Form) -> Result<(), NoMemory>
     ensures { OnOk result (lists.new ≡ lists.old ++ filter fitting.varies (profile.compounds form.now)) }
 {
@@ -131,7 +131,7 @@ fn push_applied<'a>(lists: &mut Listed<Parts<'a>>, forms: &'a [Form]) -> Result<
     Ok(())
 }
 
-#[tactic(auto, using(kif_tree::specs::CompoundLaws::compounds_laws))]
+#[tactic(auto, using(crate::proofs::GatherLaws::gather_laws))]
 /// Adds the lists headed by a variable that stand below logical words, or those below other heads.
 fn gather_applied<'a>(
     lists: &mut Listed<Parts<'a>>,

@@ -1,5 +1,6 @@
 //! What each variable may become.
-ghost use Rattle.std.specs.Prelude.{◌≡◌, ◌∷◌, [], ◌++◌, IfOk, map, filter};
+ghost use Rattle.std.specs.Prelude.{◌≡◌, ◌∷◌, [], true, IfOk, map, filter};
+ghost use Rattle.std.specs.List.{list_all};
 ghost use Rattle.kif_tree.specs.declared.form.Form.TheVariants as form;
 ghost use Rattle.var_expand.specs.Choices as choices;
 ghost use Rattle.var_expand.specs.Search as spec;
@@ -164,17 +165,19 @@ fn offer_for<'a>(
 /// An offer for each variable, in order.
 pub fn offers<'a>(
     alloc: Global,
-    problem: &Problem<'a>,
+    problem: &Problem,
+    variables: &'a [Form],
     names: &[Parts<'a>],
     rows: &'a [Forms],
     parts: &[usize],
 ) -> Result<Listed<Offer<'a>>, NoMemory>
     requires names { names.now ≡ choices.names (spec.relations_of problem.now) }
-    requires rows { rows.now ≡ map spec.row_parts problem.now.variables.now }
-    ensures { IfOk result (λ offers. offers ≡ map (spec.offered problem.now) problem.now.variables.now) }
+    requires rows { rows.now ≡ map spec.row_parts variables.now }
+    requires may { list_all spec.may_be_set variables.now ≡ true }
+    ensures { IfOk result (λ offers. offers ≡ map (spec.offered problem.now) variables.now) }
 {
     let mut offers = Listed::new(alloc);
-    for ((variable, row), part) in problem.variables.iter().zip(rows).zip(parts) {
+    for ((variable, row), part) in variables.iter().zip(rows).zip(parts) {
         offers.push(offer_for(
             alloc,
             problem,

@@ -29,7 +29,7 @@ fn push<'a>(
 // ---- whether more can be set
 
 fn passes_with<'a>(
-    problem: &Problem<'a>,
+    problem: &Problem,
     choice: &mut Vec<Chosen<'a>>,
     variable: &'a Form,
     becomes: &'a [Form],
@@ -44,7 +44,7 @@ fn passes_with<'a>(
 }
 
 fn has_option<'a>(
-    problem: &Problem<'a>,
+    problem: &Problem,
     choice: &mut Vec<Chosen<'a>>,
     offer: &Offer<'a>,
 ) -> Result<bool, NoMemory>
@@ -67,7 +67,7 @@ fn is_waiting(choice: &[Chosen], offer: &Offer, part: usize) -> bool {
 
 /// Each variable of the part for which nothing is set yet still has an option, whatever the others become.
 fn have_options<'a>(
-    problem: &Problem<'a>,
+    problem: &Problem,
     choice: &mut Vec<Chosen<'a>>,
     offers: &[Offer<'a>],
     part: usize,
@@ -86,7 +86,7 @@ fn have_options<'a>(
 
 #[cycle(complete)]
 fn completes_with<'a>(
-    problem: &Problem<'a>,
+    problem: &Problem,
     choice: &mut Vec<Chosen<'a>>,
     variable: &'a Form,
     becomes: &'a [Form],
@@ -111,7 +111,7 @@ fn completes_with<'a>(
 /// The variables of the part can all be set so that the choice may still fit.
 #[cycle(complete)]
 fn completes<'a>(
-    problem: &Problem<'a>,
+    problem: &Problem,
     choice: &mut Vec<Chosen<'a>>,
     offers: &[Offer<'a>],
     last: &[Offer<'a>],
@@ -150,7 +150,7 @@ fn completes<'a>(
 /// Each part alone can be set so that the choice may fit.
 pub fn parts_complete<'a>(
     alloc: Global,
-    problem: &Problem<'a>,
+    problem: &Problem,
     names: &[Offer<'a>],
     rows: &[Offer<'a>],
     parts: &[usize],
@@ -178,7 +178,7 @@ pub struct Offers<'s, 'a> {
 }
 
 fn goes_on<'a>(
-    problem: &Problem<'a>,
+    problem: &Problem,
     offers: &Offers<'_, 'a>,
     choice: &mut Vec<Chosen<'a>>,
     part: usize,
@@ -194,7 +194,7 @@ fn goes_on<'a>(
 
 fn keep<'a>(
     alloc: Global,
-    problem: &Problem<'a>,
+    problem: &Problem,
     choice: &[Chosen<'a>],
     found: &mut Listed<Listed<Chosen<'a>>>,
 ) -> Result<(), NoMemory>
@@ -209,7 +209,7 @@ fn keep<'a>(
 #[cycle(grow)]
 fn grow_with<'a>(
     alloc: Global,
-    problem: &Problem<'a>,
+    problem: &Problem,
     offers: &Offers<'_, 'a>,
     choice: &mut Vec<Chosen<'a>>,
     offer: &Offer<'a>,
@@ -239,7 +239,7 @@ fn grow_with<'a>(
 #[cycle(grow)]
 pub fn grow<'a>(
     alloc: Global,
-    problem: &Problem<'a>,
+    problem: &Problem,
     offers: &Offers<'_, 'a>,
     choice: &mut Vec<Chosen<'a>>,
     rest: &[Offer<'a>],
