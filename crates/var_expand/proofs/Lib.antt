@@ -1,9 +1,11 @@
 pub mod AgreeLaws
 pub mod ChoiceLaws
 pub mod ConditionLaws
+pub mod ExactLaws
 pub mod GatherLaws
 pub mod GrowLaws
 pub mod ListLaws
 pub mod MemberLaws
+pub mod ReplacedLaws
 pub mod SoundLaws
 pub mod WordLaws

@@ -5,6 +5,8 @@ pub mod Expansion
 pub mod Fitting
 pub mod Gathered
 pub mod Offered
+pub mod Problems
 pub mod Replacement
 pub mod Search
 pub mod Spliced
+pub mod Tested

@@ -1,6 +1,14 @@
 //! The variants of a form.
-ghost use Rattle.std.specs.Prelude.{IfOk};
+ghost use Rattle.std.specs.Prelude.{◌≡◌, [], ◌∷◌, true, map, filter, take, IfOk, OnOk};
+ghost use Rattle.std.specs.List.{list_all};
+ghost use Rattle.kif_tree.specs.Profile as profile;
+ghost use Rattle.kif_tree.specs.declared.form.Form.TheVariants as forms;
 ghost use Rattle.taxonomy.specs.Told as told;
+ghost use Rattle.var_expand.specs.Fitting as fits;
+ghost use Rattle.var_expand.specs.Problems as problems;
+ghost use Rattle.var_expand.specs.Replacement as replacement;
+ghost use Rattle.var_expand.specs.Search as search;
+ghost use Rattle.var_expand.specs.declared.expanded.Expanded.TheVariants as answers;
 ghost use Rattle.var_expand.specs.Expansion as spec;
 
 use crate::chosen::Chosen;
@@ -27,7 +35,14 @@ fn fitting<'a>(
     variables: &'a [Form],
     words: &'a [Form],
     rows: &'a [Forms],
-) -> Result<Listed<Listed<Chosen<'a>>>, NoMemory> {
+) -> Result<Listed<Listed<Chosen<'a>>>, NoMemory>
+    requires variables { variables.now ≡ problem.now.variables }
+    requires words { words.now ≡ map forms.Word (search.relations_of problem.now) }
+    requires rows { rows.now ≡ map search.row_parts variables.now }
+    requires may { list_all search.may_be_set variables.now ≡ true }
+    requires distinct { search.AreDistinct variables.now }
+    ensures { IfOk result (λ found. found ≡ take 20001 (problems.passing problem.now)) }
+{
     let parts = number_parts(alloc, problem)?;
     let parts = parts.as_slice();
     let names = singles(alloc, words)?;
@@ -45,7 +60,11 @@ fn find<'a>(
     offers: &[Offer<'a>],
     parts: &[usize],
     found: &mut Listed<Listed<Chosen<'a>>>,
-) -> Result<(), NoMemory> {
+) -> Result<(), NoMemory>
+    requires offers { offers.now ≡ map (search.offered problem.now) problem.now.variables }
+    requires distinct { search.AreDistinct problem.now.variables }
+    ensures { OnOk result (found.new ≡ search.filled found.old (problems.passing problem.now)) }
+{
     let middle = predicates.min(offers.len());
     let names = &offers[..middle];
     let rows = &offers[middle..];
@@ -67,7 +86,9 @@ fn variants(
     alloc: Global,
     form: &Form,
     fitting: &[Listed<Chosen>],
-) -> Result<Forms, NoMemory> {
+) -> Result<Forms, NoMemory>
+    ensures { IfOk result (λ variants. variants ≡ map (replacement.replaced form.now) fitting.now) }
+{
     let mut variants = Listed::new(alloc);
     for choice in fitting {
         variants.push(replaced(alloc, form, choice.items())?)?;
@@ -80,7 +101,9 @@ fn outcome(
     form: &Form,
     predicates: &[Form],
     fitting: &[Listed<Chosen>],
-) -> Result<Expanded, NoMemory> {
+) -> Result<Expanded, NoMemory>
+    ensures { IfOk result (λ expanded. expanded ≡ problems.answer form.now predicates.now fitting.now) }
+{
     if fitting.len() > MOST {
         return Ok(Expanded::TooMany);
     }
@@ -93,7 +116,9 @@ fn outcome(
     Ok(Expanded::NoRelation)
 }
 
-fn only_variant(alloc: Global, form: &Form) -> Result<Expanded, NoMemory> {
+fn only_variant(alloc: Global, form: &Form) -> Result<Expanded, NoMemory>
+    ensures { IfOk result (λ expanded. expanded ≡ answers.Variants (form.now ∷ [])) }
+{
     let mut variants = Listed::new(alloc);
     variants.push(form.copy(alloc)?)?;
     Ok(Expanded::Variants(variants))
@@ -122,7 +147,11 @@ fn solve(
     form: &Form,
     predicates: &[Form],
     problem: &Problem,
-) -> Result<Expanded, NoMemory> {
+) -> Result<Expanded, NoMemory>
+    requires may { list_all search.may_be_set problem.now.variables ≡ true }
+    requires distinct { search.AreDistinct problem.now.variables }
+    ensures { IfOk result (λ expanded. expanded ≡ problems.answer form.now predicates.now (take 20001 (problems.passing problem.now))) }
+{
     let variables = copy_all(alloc, problem.variables.items())?;
     let words = words(alloc, problem.signatures.relations())?;
     let rows = rows(alloc, variables.items())?;
@@ -146,7 +175,9 @@ fn problem_of<'f, 's, 't>(
     rows: Forms,
     signatures: &'s Signatures,
     taxonomy: &'t Taxonomy,
-) -> Result<Problem<'f, 's, 't>, NoMemory> {
+) -> Result<Problem<'f, 's, 't>, NoMemory>
+    ensures { IfOk result (problems.IsProblem form.now lists predicates.now rows signatures.now taxonomy.now.links) }
+{
     let arguments = gather_arguments(alloc, form)?;
     let sentences = gather_sentences(alloc, form)?;
     let conditions = gather_conditions(alloc, predicates, form)?;
@@ -169,7 +200,10 @@ fn expand_by<'f>(
     lists: Listed<Parts<'f>>,
     signatures: &Signatures,
     taxonomy: &Taxonomy,
-) -> Result<Expanded, NoMemory> {
+) -> Result<Expanded, NoMemory>
+    requires { lists ≡ filter fits.varies (profile.compounds form.now) }
+    ensures { IfOk result (spec.IsExpansion taxonomy.now.links signatures.now form.now) }
+{
     let free = free_names(alloc, form)?;
     let predicates = predicate_variables(alloc, free.items(), lists.items())?;
     let rows = row_variables(alloc, free.items())?;

@@ -81,15 +81,15 @@ fn push_if_varies<'a>(lists: &mut Listed<Parts<'a>>, parts: &'a [Form]) -> Resul
 }
 
 /// Adds the lists of the form that vary, in order.
-#[tactic(auto, using(crate::proofs::GatherLaws::gather_laws))]
 pub fn gather_lists<'a>(lists: &mut Listed<Parts<'a>>, form: &'a Form) -> Result<(), NoMemory>
     ensures { OnOk result (lists.new ≡ lists.old ++ filter fitting.varies (profile.compounds form.now)) }
 {
     let Form::List(parts) = form else {
         return Ok(());
     };
-    push_if_varies(lists, parts.items())?;
-    for part in operands(parts.items()) {
+    let parts = parts.items();
+    push_if_varies(lists, parts)?;
+    for part in operands(parts) {
         gather_lists(lists, part)?;
     }
     Ok(())
@@ -131,7 +131,19 @@ fn push_applied<'a>(lists: &mut Listed<Parts<'a>>, forms: &'a [Form]) -> Result<
     Ok(())
 }
 
-#[tactic(auto, using(crate::proofs::GatherLaws::gather_laws))]
+fn push_applied_below<'a>(
+    lists: &mut Listed<Parts<'a>>,
+    logical: bool,
+    parts: &'a [Form],
+) -> Result<(), NoMemory>
+    ensures { OnOk result (lists.new ≡ lists.old ++ spec.applied_below logical parts.now) }
+{
+    if is_as(logical, is_logical(parts)) {
+        push_applied(lists, operands(parts))?;
+    }
+    Ok(())
+}
+
 /// Adds the lists headed by a variable that stand below logical words, or those below other heads.
 fn gather_applied<'a>(
     lists: &mut Listed<Parts<'a>>,
@@ -143,10 +155,9 @@ fn gather_applied<'a>(
     let Form::List(parts) = form else {
         return Ok(());
     };
-    if is_as(logical, is_logical(parts.items())) {
-        push_applied(lists, operands(parts.items()))?;
-    }
-    for part in operands(parts.items()) {
+    let parts = parts.items();
+    push_applied_below(lists, logical, parts)?;
+    for part in operands(parts) {
         gather_applied(lists, logical, part)?;
     }
     Ok(())

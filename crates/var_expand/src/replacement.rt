@@ -1,6 +1,7 @@
 //! A form after a choice.
 ghost use Rattle.std.specs.Prelude.{◌≡◌, IfOk, ◌++◌, OnOk};
 ghost use Rattle.std.specs.List.{flat_map, list_any};
+ghost use Rattle.kif_tree.specs.Shape as shape;
 ghost use Rattle.kif_tree.specs.Terms.{same};
 ghost use Rattle.var_expand.specs.Replacement as spec;
 ghost use Rattle.var_expand.specs.Spliced.{spliced_part};
@@ -9,6 +10,12 @@ use crate::chosen::{Chosen, becomes_by};
 use kif_tree::{Form, Forms, bound, forms_equal};
 use sigma_base::{Listed, NoMemory};
 use std::alloc::Global;
+
+fn is_name(form: &Form) -> bool
+    ensures { result ≡ shape.is_name form.now }
+{
+    matches!(form, Form::Variable(_) | Form::Row(_))
+}
 
 fn is_among(names: &[Form], variable: &Form) -> bool
     ensures { result ≡ list_any (same variable.now) names.now }
@@ -58,12 +65,13 @@ pub fn replaced(alloc: Global, form: &Form, choice: &[Chosen]) -> Result<Form, N
     let Form::List(parts) = form else {
         return form.copy(alloc);
     };
-    let names = bound(parts.items());
+    let parts = parts.items();
+    let names = bound(parts);
     if names.is_empty() {
-        return Ok(Form::List(spliced(alloc, parts.items(), choice)?));
+        return Ok(Form::List(spliced(alloc, parts, choice)?));
     }
     let rest = without(alloc, names, choice)?;
-    Ok(Form::List(spliced(alloc, parts.items(), rest.items())?))
+    Ok(Form::List(spliced(alloc, parts, rest.items())?))
 }
 
 #[cycle(replace)]
@@ -72,22 +80,11 @@ fn spliced(alloc: Global, parts: &[Form], choice: &[Chosen]) -> Result<Forms, No
 {
     let mut forms = Listed::new(alloc);
     for part in parts {
-        splice(alloc, &mut forms, part, choice)?;
+        if is_name(part) {
+            append_copies(alloc, &mut forms, becomes_by(choice, part))?;
+        } else {
+            forms.push(replaced(alloc, part, choice)?)?;
+        }
     }
     Ok(forms)
-}
-
-#[cycle(replace)]
-fn splice(
-    alloc: Global,
-    forms: &mut Forms,
-    part: &Form,
-    choice: &[Chosen],
-) -> Result<(), NoMemory>
-    ensures { OnOk result (forms.new ≡ forms.old ++ spliced_part choice.now part.now) }
-{
-    match part {
-        Form::Variable(_) | Form::Row(_) => append_copies(alloc, forms, becomes_by(choice, part)),
-        _ => forms.push(replaced(alloc, part, choice)?),
-    }
 }

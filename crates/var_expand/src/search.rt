@@ -35,7 +35,7 @@ fn passes_with<'a>(
     becomes: &'a [Form],
 ) -> Result<bool, NoMemory>
     ensures same { OnOk result (choice.new.items ≡ choice.old.items) }
-    ensures test { IfOk result (λ may. may ≡ spec.passes problem.now true (choice.old.items ++ sets variable.now becomes.now ∷ [])) }
+    ensures sound { IfOk result (λ may. may ≡ false → spec.IsHopeless problem.now (choice.old.items ++ sets variable.now becomes.now ∷ [])) }
 {
     push(choice, variable, becomes)?;
     let may = passes(problem, choice.as_slice(), true);

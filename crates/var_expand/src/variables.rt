@@ -28,6 +28,12 @@ fn heads_one(name: &Form, lists: &[Parts]) -> bool
     false
 }
 
+fn is_predicate(name: &Form, lists: &[Parts]) -> bool
+    ensures { result ≡ (choices.is_variable name.now && list_any (choices.begins_with name.now) lists.now) }
+{
+    is_variable(name) && heads_one(name, lists)
+}
+
 /// The variables among the names that head one of the lists.
 pub fn predicate_variables(
     alloc: Global,
@@ -38,7 +44,7 @@ pub fn predicate_variables(
 {
     let mut predicates = Listed::new(alloc);
     for name in names {
-        if is_variable(name) && heads_one(name, lists) {
+        if is_predicate(name, lists) {
             predicates.push(name.copy(alloc)?)?;
         }
     }

@@ -1,0 +1,17 @@
+use Rattle.std.proofs.Common.{◌≡◌, ℕ, ◌<◌, ◌+◌, ◌*◌, List, [], ◌∷◌, ◌++◌, take, map, length, get_or}
+use Rattle.kif_tree.specs.declared.form.Form.{Form}
+use Rattle.var_expand.specs.Choices.{sets}
+use Rattle.var_expand.specs.Search.{IsHopeless, filled, fitting, offered_variable}
+use Rattle.var_expand.proofs.search.+complete.Given as goal
+
+abbrev pub decreases-completes : goal.decreases-completes
+decreases-completes l = 2 * length l.offers.now + 3 * length l.last.now
+
+abbrev pub decreases-completes_with : goal.decreases-completes_with
+decreases-completes_with l = 2 * length l.offers.now + 3 * length l.last.now + 1
+
+abbrev pub invariant-completes-loop-option : goal.invariant-completes-loop-option
+invariant-completes-loop-option l = record {
+  same : l.choice.items ≡ l.fn.choice.items;
+  hopeless : (k : ℕ) (d : List Form) → k < l.option-index → IsHopeless l.problem (l.fn.choice.items ++ sets l.offer.variable (get_or l.option-items k d) ∷ []);
+}

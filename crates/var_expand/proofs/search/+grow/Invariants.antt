@@ -1,0 +1,18 @@
+use Rattle.std.proofs.Common.{◌≡◌, ℕ, ◌<◌, ◌+◌, ◌*◌, List, [], ◌∷◌, ◌++◌, take, map, length, get_or}
+use Rattle.kif_tree.specs.declared.form.Form.{Form}
+use Rattle.var_expand.specs.Choices.{sets}
+use Rattle.var_expand.specs.Search.{IsHopeless, filled, fitting, offered_variable}
+use Rattle.std.specs.List.{flat_map}
+use Rattle.var_expand.proofs.search.+grow.Given as goal
+
+abbrev pub decreases-grow : goal.decreases-grow
+decreases-grow l = 2 * length l.rest.now
+
+abbrev pub decreases-grow_with : goal.decreases-grow_with
+decreases-grow_with l = 2 * length l.more.now + 1
+
+abbrev pub invariant-grow-loop-option : goal.invariant-grow-loop-option
+invariant-grow-loop-option l = record {
+  same : l.choice.items ≡ l.fn.choice.items;
+  found : l.found ≡ filled l.fn.found (flat_map (λ b. fitting l.problem (l.fn.choice.items ++ sets l.offer.variable b ∷ []) (map offered_variable l.more)) (take l.option-index l.option-items));
+}
