@@ -1,5 +1,5 @@
 -- A form after a choice, by its kind.
-use Rattle.std.proofs.Common.{◌≡◌, List, [], ◌∷◌, ◌++◌, map, filter, Bool, true, false, not, if◌then◌else◌, refl, sym, ap, ap₂, subst, ◌∙◌}
+use Rattle.std.proofs.Common.{◌≡◌, List, [], ◌∷◌, ◌++◌, map, filter, Bool, true, false, not, if◌then◌else◌, refl, sym, ap, ap₂, subst, ◌∙◌, length, arith}
 use Rattle.std.specs.Prelude.{IfOk, Result, Ok, Err}
 use Rattle.std.specs.List.{flat_map, list_any}
 use Rattle.sigma_base.specs.declared.memory.NoMemory.{NoMemory}
@@ -95,3 +95,7 @@ replaced_nothing = induction (λ f. replaced f [] ≡ f) (record {
   quoted = λ text. replaced-Quoted text [];
   list = λ parts each. replaced-List parts [] ∙ ap form.List (nothing_spliced parts each);
 })
+
+pub no_items : {X : Type 0} (xs : List X) → length xs ≡ 0 → xs ≡ []
+no_items [] e = refl
+no_items (x ∷ xs) e = absurd (omega arith)

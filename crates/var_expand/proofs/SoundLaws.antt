@@ -181,5 +181,9 @@ hopeless_offer problem offer p is h = record { none = λ w whole agrees.
       (λ left. (hopeless_now problem (sets offer.variable b ∷ []) left).none w whole (agrees_more [] w offer.variable b (agrees_none w) refl))
 }
 
-pub hopeless_more : (problem : Problem) (p : Choice) (q : Choice) → q ≡ p → IsHopeless problem q → IsHopeless problem p
-hopeless_more problem p q e h = subst (IsHopeless problem) e h
+-- no option of a variable was left by a loop over all of them
+pub hopeless_loop : (problem : Problem) (offer : Offered) (p : Choice) (items : List (List Form)) (i : ℕ) → IsOffer problem offer → items ≡ offer.allowed → length items ≤ i
+    → ((k : ℕ) (d : List Form) → k < i → IsHopeless problem (p ++ sets offer.variable (get_or items k d) ∷ [])) → IsHopeless problem p
+hopeless_loop problem offer p items i is e le h =
+    hopeless_offer problem offer p is (λ k d lt. let long : length items ≡ length offer.allowed = ap length e in
+      subst (λ xs. IsHopeless problem (p ++ sets offer.variable (get_or xs k d) ∷ [])) e (h k d (omega arith)))

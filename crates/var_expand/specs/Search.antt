@@ -77,9 +77,6 @@ row_parts_layer (Form-F.List parts) = []
 abbrev pub row_parts : Form → List Form
 row_parts f = row_parts_layer (out-Form f)
 
-abbrev pub may_be_set : Form → Bool
-may_be_set f = is_variable f || is_row f
-
 -- ---- choices of all variables, and of some
 
 -- x is one of the list

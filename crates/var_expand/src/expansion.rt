@@ -1,6 +1,5 @@
 //! The variants of a form.
-ghost use Rattle.std.specs.Prelude.{◌≡◌, [], ◌∷◌, true, map, filter, take, IfOk, OnOk};
-ghost use Rattle.std.specs.List.{list_all};
+ghost use Rattle.std.specs.Prelude.{◌≡◌, [], ◌∷◌, map, filter, take, IfOk, OnOk};
 ghost use Rattle.kif_tree.specs.Profile as profile;
 ghost use Rattle.kif_tree.specs.declared.form.Form.TheVariants as forms;
 ghost use Rattle.taxonomy.specs.Told as told;
@@ -39,7 +38,6 @@ fn fitting<'a>(
     requires variables { variables.now ≡ problem.now.variables }
     requires words { words.now ≡ map forms.Word (search.relations_of problem.now) }
     requires rows { rows.now ≡ map search.row_parts variables.now }
-    requires may { list_all search.may_be_set variables.now ≡ true }
     requires distinct { search.AreDistinct variables.now }
     ensures { IfOk result (λ found. found ≡ take 20001 (problems.passing problem.now)) }
 {
@@ -148,8 +146,7 @@ fn solve(
     predicates: &[Form],
     problem: &Problem,
 ) -> Result<Expanded, NoMemory>
-    requires may { list_all search.may_be_set problem.now.variables ≡ true }
-    requires distinct { search.AreDistinct problem.now.variables }
+    requires { search.AreDistinct problem.now.variables }
     ensures { IfOk result (λ expanded. expanded ≡ problems.answer form.now predicates.now (take 20001 (problems.passing problem.now))) }
 {
     let variables = copy_all(alloc, problem.variables.items())?;

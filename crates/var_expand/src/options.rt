@@ -1,6 +1,5 @@
 //! What each variable may become.
-ghost use Rattle.std.specs.Prelude.{◌≡◌, ◌∷◌, [], true, IfOk, map, filter};
-ghost use Rattle.std.specs.List.{list_all};
+ghost use Rattle.std.specs.Prelude.{◌≡◌, ◌∷◌, [], IfOk, map, filter};
 ghost use Rattle.kif_tree.specs.declared.form.Form.TheVariants as form;
 ghost use Rattle.var_expand.specs.Choices as choices;
 ghost use Rattle.var_expand.specs.Search as spec;
@@ -145,7 +144,6 @@ fn offer_for<'a>(
 ) -> Result<Offer<'a>, NoMemory>
     requires names { names.now ≡ choices.names (spec.relations_of problem.now) }
     requires row { row.now ≡ spec.row_parts variable.now }
-    requires may { spec.may_be_set variable.now ≡ true }
     ensures { IfOk result (λ offer. offer ≡ spec.offered problem.now variable.now) }
 {
     let allowed = match variable {
@@ -173,7 +171,6 @@ pub fn offers<'a>(
 ) -> Result<Listed<Offer<'a>>, NoMemory>
     requires names { names.now ≡ choices.names (spec.relations_of problem.now) }
     requires rows { rows.now ≡ map spec.row_parts variables.now }
-    requires may { list_all spec.may_be_set variables.now ≡ true }
     ensures { IfOk result (λ offers. offers ≡ map (spec.offered problem.now) variables.now) }
 {
     let mut offers = Listed::new(alloc);

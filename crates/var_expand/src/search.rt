@@ -88,7 +88,7 @@ fn have_options<'a>(
 fn completes_with<'a>(
     problem: &Problem,
     choice: &mut Vec<Chosen<'a>>,
-    variable: &'a Form,
+    offer: &Offer<'a>,
     becomes: &'a [Form],
     offers: &[Offer<'a>],
     last: &[Offer<'a>],
@@ -97,15 +97,37 @@ fn completes_with<'a>(
     requires offers { spec.AreOffers problem.now offers.now }
     requires last { spec.AreOffers problem.now last.now }
     ensures same { OnOk result (choice.new.items ≡ choice.old.items) }
-    ensures sound { IfOk result (λ can. can ≡ false → spec.IsHopeless problem.now (choice.old.items ++ sets variable.now becomes.now ∷ [])) }
+    ensures sound { IfOk result (λ can. can ≡ false → spec.IsHopeless problem.now (choice.old.items ++ sets offer.now.variable becomes.now ∷ [])) }
 {
-    push(choice, variable, becomes)?;
-    let can = passes(problem, choice.as_slice(), true)
-        && have_options(problem, choice, offers, part)?
-        && have_options(problem, choice, last, part)?
-        && completes(problem, choice, offers, last, part)?;
+    push(choice, offer.variable, becomes)?;
+    let can = may_complete(problem, choice, offers, last, part)?;
     choice.pop();
     Ok(can)
+}
+
+#[cycle(complete)]
+fn may_complete<'a>(
+    problem: &Problem,
+    choice: &mut Vec<Chosen<'a>>,
+    offers: &[Offer<'a>],
+    last: &[Offer<'a>],
+    part: usize,
+) -> Result<bool, NoMemory>
+    requires offers { spec.AreOffers problem.now offers.now }
+    requires last { spec.AreOffers problem.now last.now }
+    ensures same { OnOk result (choice.new.items ≡ choice.old.items) }
+    ensures sound { IfOk result (λ can. can ≡ false → spec.IsHopeless problem.now choice.old.items) }
+{
+    if !passes(problem, choice.as_slice(), true) {
+        return Ok(false);
+    }
+    if !have_options(problem, choice, offers, part)? {
+        return Ok(false);
+    }
+    if !have_options(problem, choice, last, part)? {
+        return Ok(false);
+    }
+    completes(problem, choice, offers, last, part)
 }
 
 /// The variables of the part can all be set so that the choice may still fit.
@@ -132,15 +154,7 @@ fn completes<'a>(
         return completes(problem, choice, more, last, part);
     }
     for option in offer.allowed.items() {
-        if completes_with(
-            problem,
-            choice,
-            offer.variable,
-            option.forms,
-            more,
-            last,
-            part,
-        )? {
+        if completes_with(problem, choice, offer, option.forms, more, last, part)? {
             return Ok(true);
         }
     }
@@ -188,8 +202,10 @@ fn goes_on<'a>(
     ensures same { OnOk result (choice.new.items ≡ choice.old.items) }
     ensures sound { IfOk result (λ on. on ≡ false → spec.IsHopeless problem.now choice.old.items) }
 {
-    Ok(passes(problem, choice.as_slice(), true)
-        && completes(problem, choice, offers.rows, offers.names, part)?)
+    if !passes(problem, choice.as_slice(), true) {
+        return Ok(false);
+    }
+    completes(problem, choice, offers.rows, offers.names, part)
 }
 
 fn keep<'a>(
@@ -228,11 +244,35 @@ fn grow_with<'a>(
         return Ok(());
     }
     push(choice, offer.variable, becomes)?;
-    if more.is_empty() || goes_on(problem, offers, choice, offer.part)? {
-        grow(alloc, problem, offers, choice, more, found)?;
-    }
+    go_on(alloc, problem, offers, choice, offer.part, more, found)?;
     choice.pop();
     Ok(())
+}
+
+#[cycle(grow)]
+fn go_on<'a>(
+    alloc: Global,
+    problem: &Problem,
+    offers: &Offers<'_, 'a>,
+    choice: &mut Vec<Chosen<'a>>,
+    part: usize,
+    rest: &[Offer<'a>],
+    found: &mut Listed<Listed<Chosen<'a>>>,
+) -> Result<(), NoMemory>
+    requires names { spec.AreOffers problem.now offers.now.names.now }
+    requires rows { spec.AreOffers problem.now offers.now.rows.now }
+    requires rest { spec.AreOffers problem.now rest.now }
+    requires begun { spec.IsBegun problem.now choice.old.items (map spec.offered_variable rest.now) }
+    ensures same { OnOk result (choice.new.items ≡ choice.old.items) }
+    ensures found { OnOk result (found.new ≡ spec.filled found.old (spec.fitting problem.now choice.old.items (map spec.offered_variable rest.now))) }
+{
+    if rest.is_empty() {
+        return keep(alloc, problem, choice.as_slice(), found);
+    }
+    if !goes_on(problem, offers, choice, part)? {
+        return Ok(());
+    }
+    grow(alloc, problem, offers, choice, rest, found)
 }
 
 /// Adds the choices that fit and begin with this one, in order, as long as no more than 20,000 were found before.

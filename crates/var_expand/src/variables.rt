@@ -1,7 +1,8 @@
 //! The variables for which something is chosen.
-ghost use Rattle.std.specs.Prelude.{◌≡◌, ◌&&◌, IfOk, filter};
+ghost use Rattle.std.specs.Prelude.{◌≡◌, IfOk, filter};
 ghost use Rattle.std.specs.List.{list_any};
 ghost use Rattle.var_expand.specs.Choices as choices;
+ghost use Rattle.var_expand.specs.Problems as problems;
 
 use crate::lists::{Parts, is_row, is_variable};
 use kif_tree::{Form, Forms, forms_equal};
@@ -29,7 +30,7 @@ fn heads_one(name: &Form, lists: &[Parts]) -> bool
 }
 
 fn is_predicate(name: &Form, lists: &[Parts]) -> bool
-    ensures { result ≡ (choices.is_variable name.now && list_any (choices.begins_with name.now) lists.now) }
+    ensures { result ≡ problems.is_predicate lists.now name.now }
 {
     is_variable(name) && heads_one(name, lists)
 }
@@ -40,7 +41,7 @@ pub fn predicate_variables(
     names: &[Form],
     lists: &[Parts],
 ) -> Result<Forms, NoMemory>
-    ensures { IfOk result (λ predicates. predicates ≡ filter (λ name. choices.is_variable name && list_any (choices.begins_with name) lists.now) names.now) }
+    ensures { IfOk result (λ predicates. predicates ≡ filter (problems.is_predicate lists.now) names.now) }
 {
     let mut predicates = Listed::new(alloc);
     for name in names {

@@ -5,10 +5,13 @@ use Rattle.var_expand.specs.Search.{IsHopeless, filled, fitting, offered_variabl
 use Rattle.var_expand.proofs.search.+complete.Given as goal
 
 abbrev pub decreases-completes : goal.decreases-completes
-decreases-completes l = 2 * length l.offers.now + 3 * length l.last.now
+decreases-completes l = 3 * length l.offers.now + 4 * length l.last.now
+
+abbrev pub decreases-may_complete : goal.decreases-may_complete
+decreases-may_complete l = 3 * length l.offers.now + 4 * length l.last.now + 1
 
 abbrev pub decreases-completes_with : goal.decreases-completes_with
-decreases-completes_with l = 2 * length l.offers.now + 3 * length l.last.now + 1
+decreases-completes_with l = 3 * length l.offers.now + 4 * length l.last.now + 2
 
 abbrev pub invariant-completes-loop-option : goal.invariant-completes-loop-option
 invariant-completes-loop-option l = record {

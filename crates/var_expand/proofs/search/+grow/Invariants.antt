@@ -6,10 +6,13 @@ use Rattle.std.specs.List.{flat_map}
 use Rattle.var_expand.proofs.search.+grow.Given as goal
 
 abbrev pub decreases-grow : goal.decreases-grow
-decreases-grow l = 2 * length l.rest.now
+decreases-grow l = 3 * length l.rest.now
+
+abbrev pub decreases-go_on : goal.decreases-go_on
+decreases-go_on l = 3 * length l.rest.now + 1
 
 abbrev pub decreases-grow_with : goal.decreases-grow_with
-decreases-grow_with l = 2 * length l.more.now + 1
+decreases-grow_with l = 3 * length l.more.now + 2
 
 abbrev pub invariant-grow-loop-option : goal.invariant-grow-loop-option
 invariant-grow-loop-option l = record {
