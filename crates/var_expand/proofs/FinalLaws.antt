@@ -6,6 +6,7 @@ use Rattle.std.specs.List.{list_any, list_all, flat_map}
 use Rattle.kif_tree.specs.declared.form.Form.{Form, out-Form}
 use Rattle.kif_tree.specs.Names.{free, free_names, each_once}
 use Rattle.kif_tree.specs.declared.form.Form.TheOpen.{Form-F}
+use Rattle.kif_tree.specs.declared.form.Form.TheVariants as form
 use Rattle.kif_tree.specs.Profile.{compounds, is_variable_layer, is_row_layer}
 use Rattle.kif_tree.specs.SameLaws.{same-Decides}
 use Rattle.kif_tree.specs.Terms.{Bytes, same}
@@ -13,7 +14,7 @@ use Rattle.sigma_base.specs.Lists.{Each}
 use Rattle.signatures.specs.Tables.{relations_in}
 use Rattle.signatures.specs.declared.signatures.Signatures.{Signatures}
 use Rattle.taxonomy.specs.Told.{Link}
-use Rattle.var_expand.specs.Choices.{Choice, choices, chosen_for, predicate_variables, row_variables, is_variable, is_row, begins_with, heads_a_list}
+use Rattle.var_expand.specs.Choices.{Choice, choices, chosen_for, predicate_variables, row_variables, is_variable, is_row, begins_with, heads_a_list, names}
 use Rattle.var_expand.specs.Expansion.{IsExpansion, outcome, variants_by, nothing_fits}
 use Rattle.var_expand.specs.Fitting.{varies, has_variable_head}
 use Rattle.var_expand.specs.Offered.{Offered}
@@ -46,6 +47,7 @@ begins_varies name e [] h = absurd (cc)
 begins_varies name e (head ∷ arguments) h = ap (λ b. b || list_any is_row arguments) (sym (ap is_variable ((same-Decides name head).0 h)) ∙ e)
 
 predicate_exact : (f name : Form) → is_predicate (filter varies (compounds f)) name ≡ (is_variable name && heads_a_list f name)
+unfolding is_predicate
 predicate_exact f name = go (is_variable name) refl
   where
     go : (b : Bool) → is_variable name ≡ b → (b && list_any (begins_with name) (filter varies (compounds f))) ≡ (b && list_any (begins_with name) (compounds f))
@@ -216,3 +218,10 @@ expansion_is links signatures f predicates rows problem expanded is first second
 pub problem_distinct : (f : Form) (predicates rows : List Form) (signatures : Signatures) (links : List Link) (problem : Problem)
     → IsProblem f (filter varies (compounds f)) predicates rows signatures links problem → predicates ≡ predicate_variables f → rows ≡ row_variables f → AreDistinct problem.variables
 problem_distinct f predicates rows signatures links problem is first second = subst AreDistinct (sym (is.variables ∙ ap₂ ◌++◌ first second)) (chosen_distinct f)
+
+each_named : (relations : List Bytes) → map (λ (f : Form). f ∷ []) (map form.Word relations) ≡ names relations
+each_named [] = refl
+each_named (relation ∷ relations) = ap (λ all. (form.Word relation ∷ []) ∷ all) (each_named relations)
+
+pub names_of : (relations : List Bytes) (words : List Form) (all : List (List Form)) → all ≡ map (λ f. f ∷ []) words → words ≡ map form.Word relations → all ≡ names relations
+names_of relations words all e h = e ∙ ap (map (λ (f : Form). f ∷ [])) h ∙ each_named relations

@@ -6,6 +6,7 @@ pub mod FinalLaws
 pub mod GatherLaws
 pub mod GrowLaws
 pub mod ListLaws
+pub mod LoopLaws
 pub mod MemberLaws
 pub mod NothingLaws
 pub mod ReplacedLaws

@@ -168,13 +168,17 @@ bare = induction (λ f. filter varies (compounds f) ≡ [] → IsBare f) (record
 
 -- ---- nothing is asked
 
+never : (b : Bool) → (b && false) ≡ false
+never true = refl
+never false = refl
+
+none_heads : (name : Form) → is_predicate [] name ≡ false
+unfolding is_predicate
+none_heads name = never (is_variable name)
+
 no_predicate : (names : List Form) → filter (is_predicate []) names ≡ []
 no_predicate [] = refl
-no_predicate (name ∷ names) = ap (λ b. if b then name ∷ filter (is_predicate []) names else filter (is_predicate []) names) (never (is_variable name)) ∙ no_predicate names
-  where
-    never : (b : Bool) → (b && false) ≡ false
-    never true = refl
-    never false = refl
+no_predicate (name ∷ names) = ap (λ b. if b then name ∷ filter (is_predicate []) names else filter (is_predicate []) names) (none_heads name) ∙ no_predicate names
 
 no_predicates : (f : Form) → filter varies (compounds f) ≡ [] → predicate_variables f ≡ []
 no_predicates f e = sym (predicates_exact f) ∙ ap (λ lists. filter (is_predicate lists) (free_names f)) e ∙ no_predicate (free_names f)

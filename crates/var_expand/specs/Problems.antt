@@ -36,5 +36,5 @@ abbrev pub answer : Form → List Form → List Choice → Expanded
 answer f predicates fitting = if nat_lt 20000 (length fitting) then TooMany else answer_by f predicates fitting
 
 -- the variable heads one of the lists
-abbrev pub is_predicate : List (List Form) → Form → Bool
+unfoldable pub is_predicate : List (List Form) → Form → Bool
 is_predicate lists name = is_variable name && list_any (begins_with name) lists

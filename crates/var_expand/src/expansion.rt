@@ -77,7 +77,8 @@ fn find<'a>(
         &mut choice,
         offers,
         found,
-    )
+    )?;
+    Ok(())
 }
 
 fn variants(
@@ -167,13 +168,13 @@ fn solve(
 fn problem_of<'f, 's, 't>(
     alloc: Global,
     form: &'f Form,
-    lists: Listed<Parts<'f>>,
+    varying: Listed<Parts<'f>>,
     predicates: &[Form],
     rows: Forms,
     signatures: &'s Signatures,
     taxonomy: &'t Taxonomy,
 ) -> Result<Problem<'f, 's, 't>, NoMemory>
-    ensures { IfOk result (problems.IsProblem form.now lists predicates.now rows signatures.now taxonomy.now.links) }
+    ensures { IfOk result (problems.IsProblem form.now varying.entry predicates.now rows signatures.now taxonomy.now.links) }
 {
     let arguments = gather_arguments(alloc, form)?;
     let sentences = gather_sentences(alloc, form)?;
@@ -182,7 +183,7 @@ fn problem_of<'f, 's, 't>(
     variables.append(rows)?;
     Ok(Problem {
         variables,
-        lists,
+        lists: varying,
         arguments,
         sentences,
         conditions,
@@ -194,20 +195,20 @@ fn problem_of<'f, 's, 't>(
 fn expand_by<'f>(
     alloc: Global,
     form: &'f Form,
-    lists: Listed<Parts<'f>>,
+    varying: Listed<Parts<'f>>,
     signatures: &Signatures,
     taxonomy: &Taxonomy,
 ) -> Result<Expanded, NoMemory>
-    requires { lists ≡ filter fits.varies (profile.compounds form.now) }
+    requires { varying ≡ filter fits.varies (profile.compounds form.now) }
     ensures { IfOk result (spec.IsExpansion taxonomy.now.links signatures.now form.now) }
 {
     let free = free_names(alloc, form)?;
-    let predicates = predicate_variables(alloc, free.items(), lists.items())?;
+    let predicates = predicate_variables(alloc, free.items(), varying.items())?;
     let rows = row_variables(alloc, free.items())?;
     let problem = problem_of(
         alloc,
         form,
-        lists,
+        varying,
         predicates.items(),
         rows,
         signatures,

@@ -160,6 +160,10 @@ fn offer_for<'a>(
     })
 }
 
+fn part_at(parts: &[usize], at: usize) -> usize {
+    parts.get(at).copied().unwrap_or(0)
+}
+
 /// An offer for each variable, in order.
 pub fn offers<'a>(
     alloc: Global,
@@ -174,15 +178,10 @@ pub fn offers<'a>(
     ensures { IfOk result (λ offers. offers ≡ map (spec.offered problem.now) variables.now) }
 {
     let mut offers = Listed::new(alloc);
-    for ((variable, row), part) in variables.iter().zip(rows).zip(parts) {
-        offers.push(offer_for(
-            alloc,
-            problem,
-            names,
-            variable,
-            row.items(),
-            *part,
-        )?)?;
+    for (at, variable) in variables.iter().enumerate() {
+        let part = part_at(parts, at);
+        let row = rows[at].items();
+        offers.push(offer_for(alloc, problem, names, variable, row, part)?)?;
     }
     Ok(offers)
 }

@@ -29,6 +29,7 @@ fn heads_one(name: &Form, lists: &[Parts]) -> bool
     false
 }
 
+#[tactic(auto, unfolding(crate::specs::Problems::is_predicate))]
 fn is_predicate(name: &Form, lists: &[Parts]) -> bool
     ensures { result ≡ problems.is_predicate lists.now name.now }
 {

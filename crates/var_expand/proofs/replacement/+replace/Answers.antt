@@ -10,10 +10,10 @@ replaced-returns-in_default t c = ok_is c.copy.result c.args.form.now (replaced 
 
 pub replaced-returns-then-is_empty : goal.replaced-returns-then-is_empty
 replaced-returns-then-is_empty t c =
-    let none : c.bound-names.result.now ≡ [] = no_items c.bound-names.result.now (omega (arith, c.if-is_empty.true, c.if-is_empty.ensures)) in
+    let none : c.bound-names.result.now ≡ [] = no_items c.bound-names.result.now (grind arith) in
     list_kept c.args.form.now c.items-parts.result.now c.args.choice.now c.in_ok-spliced.field-0 (c.in-List.is ∙ ap form.List (sym c.items-parts.ensures)) (sym c.bound-names.ensures ∙ none) c.in_ok-spliced.ensures
 
 pub replaced-returns : goal.replaced-returns
 replaced-returns t c =
-    let rest : c.items.result.now ≡ without (bound c.items-parts.result.now) c.args.choice.now = cc (c.in_ok-rest.ensures, c.bound-names.ensures, c.items.ensures, c.rest.view_is) in
+    let rest : c.items.result.now ≡ without (bound c.items-parts.result.now) c.args.choice.now = cc (c.in_ok-rest.ensures, c.bound-names.ensures, c.items.ensures) in
     list_replaced c.args.form.now c.items-parts.result.now c.args.choice.now c.items.result.now c.in_ok-spliced-2.field-0 (c.in-List.is ∙ ap form.List (sym c.items-parts.ensures)) rest c.in_ok-spliced-2.ensures
