@@ -225,3 +225,10 @@ each_named (relation ∷ relations) = ap (λ all. (form.Word relation ∷ []) �
 
 pub names_of : (relations : List Bytes) (words : List Form) (all : List (List Form)) → all ≡ map (λ f. f ∷ []) words → words ≡ map form.Word relations → all ≡ names relations
 names_of relations words all e h = e ∙ ap (map (λ (f : Form). f ∷ [])) h ∙ each_named relations
+
+pub predicates_of : (f : Form) (lists : List (List Form)) (free_ones predicates : List Form) → lists ≡ filter varies (compounds f) → free_ones ≡ free_names f
+    → predicates ≡ filter (is_predicate lists) free_ones → predicates ≡ predicate_variables f
+predicates_of f lists free_ones predicates e h is = is ∙ ap₂ (λ ls ns. filter (is_predicate ls) ns) e h ∙ predicates_exact f
+
+pub rows_of : (f : Form) (free_ones rows : List Form) → free_ones ≡ free_names f → rows ≡ filter is_row free_ones → rows ≡ row_variables f
+rows_of f free_ones rows h is = is ∙ ap (filter is_row) h
