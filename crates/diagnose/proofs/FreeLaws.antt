@@ -1,19 +1,20 @@
 -- What `free` and `lists` give at each kind of form.
-use Rattle.std.proofs.Common.{◌≡◌, ℕ, ◌+◌, ◌<◌, ◌≤◌, ◌⊎◌, ◌||◌, ◌&&◌, not, List, [], ◌∷◌, ◌++◌, length, map, filter, get_or, take, if◌then◌else◌, Bool, true, false, refl, sym, ap, ap₂, subst, ◌∙◌, arith, inl, inr}
+use Rattle.std.proofs.Common.{◌≡◌, ℕ, ◌+◌, ◌<◌, ◌≤◌, ◌⊎◌, ◌||◌, ◌&&◌, not, List, [], ◌∷◌, ◌++◌, length, get_or, take, if◌then◌else◌, Bool, true, false, refl, sym, ap, ap₂, subst, ◌∙◌, arith, inl, inr}
 use Rattle.std.specs.Prelude.{Contains}
 use Rattle.std.specs.List.{flat_map}
 use Rattle.std.specs.Str.{bytes_eq}
 use Rattle.std.proofs.lemmas.List.{take_more}
 use Rattle.std.proofs.lemmas.List.Concat.{flat_map-cons}
-use Rattle.std.proofs.lemmas.List.Folds.{list_any-append, flat_map-map}
+use Rattle.std.proofs.lemmas.List.Folds.{list_any-append}
 use Rattle.std.proofs.lemmas.List.Elements.{Contains-append_left, Contains-append_right, Contains-append_cases}
 use Rattle.std.proofs.lemmas.Map.Views.{any-filter_same, list_any-from_Contains}
 use Rattle.kif_tree.specs.FormLaws.{induction, fold-Variable}
-use Rattle.kif_tree.specs.Names.{parts_in, parts_layer, bound, is_other, free, free_step, lists, lists_step}
+use Rattle.kif_tree.specs.NameLaws.{free-Word, free-Variable, free-Row, free-Numeral, free-Quoted, free-List, lists-List, lists_other}
+use Rattle.kif_tree.specs.Names.{parts_in, parts_layer, bound, is_other, free, lists}
 use Rattle.kif_tree.specs.SameLaws.{same-Decides, same_equivalence}
 use Rattle.kif_tree.specs.Shape.{is_quantifier, is_quantifier_layer, is_name, is_name_layer, lists_names, lists_names_layer}
 use Rattle.kif_tree.specs.Terms.{Bytes, same, same_layer}
-use Rattle.kif_tree.specs.declared.form.Form.{Form, out-Form, roll-Form, roll-out-Form, para-Form, para-roll-Form}
+use Rattle.kif_tree.specs.declared.form.Form.{Form, out-Form, roll-Form, roll-out-Form}
 use Rattle.kif_tree.specs.declared.form.Form.TheOpen.{Form-F}
 use Rattle.kif_tree.specs.declared.form.Form.TheVariants as form
 use Rattle.diagnose.proofs.FoundLaws.{contains_nothing, contains_first, contains_later, contains_cases}
@@ -82,36 +83,6 @@ listed_not names name apart = go (is_listed names name) refl
     go false e = refl
 
 -- ---- free names
-
-forms_of : {A : Type 0} (value : Form → A) (parts : List Form) → map (λ (part : Form × A). part.0) (map (λ (part : Form). (part, value part)) parts) ≡ parts
-forms_of value [] = refl
-forms_of value (f ∷ parts) = ap (λ fs. f ∷ fs) (forms_of value parts)
-
-pub free-List : (parts : List Form) → free (form.List parts) ≡ filter (is_other (bound parts)) (flat_map free parts)
-unfolding free
-free-List parts =
-    ap (para-Form (List Form) free_step) (sym (form.rolls-List parts)) ∙ para-roll-Form (List Form) free_step (Form-F.List parts)
-    ∙ ap₂ (λ ps fs. filter (is_other (bound ps)) fs) (forms_of free parts) (flat_map-map (λ (part : Form × List Form). part.1) (λ (part : Form). (part, free part)) parts)
-
-pub free-Variable : (text : Bytes) → free (form.Variable text) ≡ form.Variable text ∷ []
-unfolding free
-free-Variable text = ap (para-Form (List Form) free_step) (sym (form.rolls-Variable text)) ∙ para-roll-Form (List Form) free_step (Form-F.Variable text)
-
-free-Row : (text : Bytes) → free (form.Row text) ≡ form.Row text ∷ []
-unfolding free
-free-Row text = ap (para-Form (List Form) free_step) (sym (form.rolls-Row text)) ∙ para-roll-Form (List Form) free_step (Form-F.Row text)
-
-free-Word : (text : Bytes) → free (form.Word text) ≡ []
-unfolding free
-free-Word text = ap (para-Form (List Form) free_step) (sym (form.rolls-Word text)) ∙ para-roll-Form (List Form) free_step (Form-F.Word text)
-
-free-Numeral : (text : Bytes) → free (form.Numeral text) ≡ []
-unfolding free
-free-Numeral text = ap (para-Form (List Form) free_step) (sym (form.rolls-Numeral text)) ∙ para-roll-Form (List Form) free_step (Form-F.Numeral text)
-
-free-Quoted : (text : Bytes) → free (form.Quoted text) ≡ []
-unfolding free
-free-Quoted text = ap (para-Form (List Form) free_step) (sym (form.rolls-Quoted text)) ∙ para-roll-Form (List Form) free_step (Form-F.Quoted text)
 
 pub is_free_variable : (f : Form) (text : Bytes) → f ≡ form.Variable text → (name : Bytes) → is_free f name ≡ bytes_eq name text
 is_free_variable f text is name =
@@ -255,23 +226,6 @@ pub is_free_parts : (parts : List Form) → bound parts ≡ [] → (name : Bytes
 is_free_parts parts h name = is_free_list parts name ∙ ap (λ fs. not (is_listed fs name) && is_free_in parts name) h
 
 -- ---- lists
-
-pub lists-List : (parts : List Form) → lists (form.List parts) ≡ parts ∷ flat_map lists parts
-unfolding lists
-lists-List parts =
-    ap (para-Form (List (List Form)) lists_step) (sym (form.rolls-List parts)) ∙ para-roll-Form (List (List Form)) lists_step (Form-F.List parts)
-    ∙ ap₂ (λ ps fs. ps ∷ fs) (forms_of lists parts) (flat_map-map (λ (part : Form × List (List Form)). part.1) (λ (part : Form). (part, lists part)) parts)
-
-pub lists_other : (f : Form) → ((parts : List Form) → f ≡ form.List parts → ⊥) → lists f ≡ []
-unfolding lists
-lists_other = induction (λ f. ((parts : List Form) → f ≡ form.List parts → ⊥) → lists f ≡ []) (record {
-  word = λ text _. ap (para-Form (List (List Form)) lists_step) (sym (form.rolls-Word text)) ∙ para-roll-Form (List (List Form)) lists_step (Form-F.Word text);
-  variable = λ text _. ap (para-Form (List (List Form)) lists_step) (sym (form.rolls-Variable text)) ∙ para-roll-Form (List (List Form)) lists_step (Form-F.Variable text);
-  row = λ text _. ap (para-Form (List (List Form)) lists_step) (sym (form.rolls-Row text)) ∙ para-roll-Form (List (List Form)) lists_step (Form-F.Row text);
-  numeral = λ text _. ap (para-Form (List (List Form)) lists_step) (sym (form.rolls-Numeral text)) ∙ para-roll-Form (List (List Form)) lists_step (Form-F.Numeral text);
-  quoted = λ text _. ap (para-Form (List (List Form)) lists_step) (sym (form.rolls-Quoted text)) ∙ para-roll-Form (List (List Form)) lists_step (Form-F.Quoted text);
-  list = λ parts each apart. absurd (apart parts refl);
-})
 
 -- a list at any depth of one of the forms
 pub record IsWithin (parts : List Form) (list : List Form) : Type 0 where

@@ -2,6 +2,7 @@ pub mod ArgumentLaws
 pub mod ClassWordLaws
 pub mod FoundLaws
 mod FreeLaws
+mod HashedWordLaws
 pub mod ListLaws
 mod NewWordLaws
 pub mod NumberLaws

@@ -1,16 +1,14 @@
 -- Diagnostics of a form's lists by those of each list.
-use Rattle.std.proofs.Common.{◌≡◌, ℕ, zero, suc, ◌+◌, ◌<◌, ◌≤◌, ◌⊎◌, List, [], ◌∷◌, ◌++◌, length, get_or, take, drop, map, refl, sym, ap, ap₂, subst, ◌∙◌, arith, inl, inr, length-append}
+use Rattle.std.proofs.Common.{◌≡◌, ℕ, zero, suc, ◌+◌, ◌<◌, ◌≤◌, ◌⊎◌, List, [], ◌∷◌, ◌++◌, length, get_or, take, drop, refl, sym, ap, ap₂, subst, ◌∙◌, arith, inl, inr, length-append}
 use Rattle.std.specs.Prelude.{Contains}
 use Rattle.std.specs.List.{flat_map}
 use Rattle.std.proofs.lemmas.List.{length-take-le}
 use Rattle.std.proofs.lemmas.List.Elements.{Contains-append_left, Contains-append_right, Contains-append_cases}
-use Rattle.std.proofs.lemmas.List.Folds.{flat_map-map}
 use Rattle.std.proofs.Math.Seq.{get_or-append_seam}
-use Rattle.kif_tree.specs.FormLaws.{induction}
-use Rattle.kif_tree.specs.Names.{lists, lists_step}
+use Rattle.kif_tree.specs.NameLaws.{lists-List, lists_other}
+use Rattle.kif_tree.specs.Names.{lists}
 use Rattle.kif_tree.specs.Terms.{Bytes}
-use Rattle.kif_tree.specs.declared.form.Form.{Form, para-Form, para-roll-Form}
-use Rattle.kif_tree.specs.declared.form.Form.TheOpen.{Form-F}
+use Rattle.kif_tree.specs.declared.form.Form.{Form}
 use Rattle.kif_tree.specs.declared.form.Form.TheVariants as form
 use Rattle.kif_tree.specs.declared.place.Located.{Located}
 use Rattle.kif_tree.specs.declared.place.Place.{Place}
@@ -21,29 +19,6 @@ use Rattle.diagnose.specs.Found.{Adds, OfSome}
 use Rattle.diagnose.specs.OfLists.{IsOfCount, IsOfTypes, IsOfHeaded, IsOfParts}
 use Rattle.diagnose.specs.declared.diagnostic.Diagnostic.{Diagnostic}
 use Rattle.diagnose.proofs.FoundLaws.{contains_first, contains_later, contains_cases, contains_nothing, adds_same, adds_both, adds_none, adds_all}
-
--- ---- the lists of a form
-
-same_parts : (parts : List Form) → map (λ (part : Form × List (List Form)). part.0) (map (λ (part : Form). (part, lists part)) parts) ≡ parts
-same_parts [] = refl
-same_parts (part ∷ parts) = ap (λ (ps : List Form). part ∷ ps) (same_parts parts)
-
-pub lists-List : (parts : List Form) → lists (form.List parts) ≡ parts ∷ flat_map lists parts
-unfolding lists
-lists-List parts =
-    ap (para-Form (List (List Form)) lists_step) (sym (form.rolls-List parts)) ∙ para-roll-Form (List (List Form)) lists_step (Form-F.List parts)
-    ∙ ap₂ ◌∷◌ (same_parts parts) (flat_map-map (λ (part : Form × List (List Form)). part.1) (λ (part : Form). (part, lists part)) parts)
-
-pub lists_other : (f : Form) → ((parts : List Form) → f ≡ form.List parts → ⊥) → lists f ≡ []
-unfolding lists
-lists_other = induction (λ f. ((parts : List Form) → f ≡ form.List parts → ⊥) → lists f ≡ []) (record {
-  word = λ text _. ap (para-Form (List (List Form)) lists_step) (sym (form.rolls-Word text)) ∙ para-roll-Form (List (List Form)) lists_step (Form-F.Word text);
-  variable = λ text _. ap (para-Form (List (List Form)) lists_step) (sym (form.rolls-Variable text)) ∙ para-roll-Form (List (List Form)) lists_step (Form-F.Variable text);
-  row = λ text _. ap (para-Form (List (List Form)) lists_step) (sym (form.rolls-Row text)) ∙ para-roll-Form (List (List Form)) lists_step (Form-F.Row text);
-  numeral = λ text _. ap (para-Form (List (List Form)) lists_step) (sym (form.rolls-Numeral text)) ∙ para-roll-Form (List (List Form)) lists_step (Form-F.Numeral text);
-  quoted = λ text _. ap (para-Form (List (List Form)) lists_step) (sym (form.rolls-Quoted text)) ∙ para-roll-Form (List (List Form)) lists_step (Form-F.Quoted text);
-  list = λ parts each other. absurd (other parts refl);
-})
 
 -- ---- of some list
 

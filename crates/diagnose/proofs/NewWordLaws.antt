@@ -1,5 +1,5 @@
 -- What was added, and words that are new at a form.
-use Rattle.std.proofs.Common.{◌≡◌, ℕ, ◌+◌, ◌<◌, ◌≤◌, ◌⊎◌, ◌||◌, ◌&&◌, List, length, get_or, take, Bool, true, false, refl, sym, ap, ap₂, subst, ◌∙◌, inl, inr}
+use Rattle.std.proofs.Common.{◌≡◌, ℕ, ◌+◌, ◌<◌, ◌≤◌, ◌⊎◌, ◌||◌, ◌&&◌, not, List, length, get_or, take, Bool, true, false, refl, sym, ap, ap₂, subst, ◌∙◌, inl, inr}
 use Rattle.std.specs.List.{list_any}
 use Rattle.std.specs.Str.{bytes_eq}
 use Rattle.std.proofs.lemmas.List.{take_all}
@@ -66,6 +66,10 @@ faults_of taxonomy tables place word a b c xs ys zs ws is_a is_b is_c one two th
     right d (inr h) = inr (inr (sym is_c ∙ h.0, h.1))
 
 -- ---- new words
+
+pub was_new : (added had : Bool) → added ≡ not had → added ≡ true → had ≡ false
+was_new added false is new = refl
+was_new added true is new = let e : false ≡ true = sym is ∙ new in absurd (cc)
 
 pub new_one : (F : Bytes → Diagnostic → Type 0) (old : List Bytes) (word : Bytes) (xs ys : List Diagnostic) → is_among old word ≡ false → Adds (F word) xs ys → Adds (IsNew F old (is_word word)) xs ys
 new_one F old word xs ys new h = adds_same (F word) (IsNew F old (is_word word)) xs ys

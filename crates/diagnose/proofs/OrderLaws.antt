@@ -1,6 +1,6 @@
 -- Ranks in order, and the diagnostics that have them.
-use Rattle.std.proofs.Common.{◌≡◌, ℕ, ◌+◌, ◌<◌, ◌≤◌, ◌⊎◌, ◌↔◌, zero, suc, List, [], ◌∷◌, ◌++◌, map, length, get_or, true, false, cond, refl, sym, ap, ap₂, subst, ◌∙◌, inl, inr, arith}
-use Rattle.std.specs.Prelude.{Option, Some, None, Contains, slice_get}
+use Rattle.std.proofs.Common.{◌≡◌, Bool, ◌&&◌, ℕ, ◌+◌, ◌<◌, ◌≤◌, ◌⊎◌, ◌↔◌, zero, suc, List, [], ◌∷◌, ◌++◌, map, length, get_or, true, false, cond, refl, sym, ap, ap₂, subst, ◌∙◌, inl, inr, arith}
+use Rattle.std.specs.Prelude.{nat_lt, Option, Some, None, Contains, slice_get}
 use Rattle.std.specs.BTreeMap.{BTreeMap, is_at}
 use Rattle.std.specs.BTreeSet.{BTreeSet, insert_key, IsOrdered}
 use Rattle.std.specs.List.{AllByRecursion}
@@ -11,6 +11,7 @@ use Rattle.std.specs.Option.{option_cmp}
 use Rattle.std.specs.Ordering.{nat_cmp, is_eq, ordering_then, match_ordering, MatchOrdering}
 use Rattle.std.specs.declared.cmp.Ordering.{Ordering}
 use Rattle.std.specs.declared.cmp.Ordering.TheVariants.{Less, Equal, Greater}
+use Rattle.std.proofs.lemmas.Bool.Decides.{Decides-ltb}
 use Rattle.std.proofs.lemmas.Map.Lookups.{exact_bytes}
 use Rattle.sigma_base.specs.Lists.{Each}
 use Rattle.kif_tree.specs.declared.place.Located.{Located}
@@ -21,7 +22,7 @@ use Rattle.taxonomy.proofs.GraphLaws.{each_in}
 use Rattle.diagnose.specs.declared.diagnostic.Diagnostic.{Diagnostic}
 use Rattle.diagnose.specs.declared.order.Rank.{Rank}
 use Rattle.diagnose.specs.Diagnostics.{StandsBefore, OtherBefore, ComesBefore, AreAscending}
-use Rattle.diagnose.specs.Order.{place_order, rank_order, find, ArePositions, position_of, place_at, place_of, rank_of, diagnostic_of, AddsRank, AreRanks, IsFormPlace, AreKnown, Appends}
+use Rattle.diagnose.specs.Order.{place_order, rank_order, find, ArePositions, position_of, place_at, place_of, rank_of, diagnostic_of, AddsRank, AreRanks, IsFormPlace, AreKnown, Appends, codes_ascend}
 
 abbrev order : Rank → Rank → Ordering
 order = rank_order
@@ -352,3 +353,31 @@ without_more (x ∷ xs) = ap (λ ys. x ∷ ys) (without_more xs)
 pub all_moved : (forms : List Located) (place : Place) (keys : List Rank) (list all : List Diagnostic) → (0 < length keys → false ≡ true) → list ++ map (diagnostic_of forms place) keys ≡ all → list ≡ all
 all_moved forms place [] list all none h = sym (without_more list) ∙ h
 all_moved forms place (key ∷ keys) list all none h = let no_way : false ≡ true = none (omega arith) in absurd (cc)
+
+-- ---- diagnostics whose codes ascend
+
+both_true : (a b : Bool) → (a && b) ≡ true → (a ≡ true) × (b ≡ true)
+both_true true b h = (refl, h)
+both_true false b h = absurd (cc)
+
+pub all_above : (forms : List Located) (place : Place) (d : Diagnostic) (last : ℕ) (found : List Diagnostic) → d.place ≡ place → d.code ≤ last → AreKnown forms place found → codes_ascend last found ≡ true
+    → Each (ComesBefore forms d) found
+all_above forms place d last [] at low known up = tt
+all_above forms place d last (other ∷ found) at low known up =
+    let two = both_true (nat_lt last other.code) (codes_ascend other.code found) up in
+    let above : last < other.code = (Decides-ltb last other.code).0 two.0 in
+    (inr (at ∙ sym known.0.0, inl (omega (arith, low, above))), all_above forms place d other.code found at (omega (arith, low, above)) known.1 two.1)
+
+pub codes_apart : (forms : List Located) (place : Place) (last : ℕ) (found : List Diagnostic) → AreKnown forms place found → codes_ascend last found ≡ true → AreAscending forms found
+codes_apart forms place last [] known up = tt
+codes_apart forms place last (d ∷ found) known up =
+    let two = both_true (nat_lt last d.code) (codes_ascend d.code found) up in
+    (all_above forms place d d.code found known.0.0 (omega arith) known.1 two.1, codes_apart forms place d.code found known.1 two.1)
+
+pub appends_all : (forms : List Located) (place : Place) (found old new : List Diagnostic) → AreKnown forms place found → codes_ascend 0 found ≡ true → new ≡ old ++ found → Appends forms found old new
+appends_all forms place found old new known up is = record {
+  sorted = found;
+  is = is;
+  ascending = codes_apart forms place 0 found known up;
+  same = λ d. (λ h. h, λ h. h);
+}

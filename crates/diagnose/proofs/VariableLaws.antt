@@ -13,7 +13,8 @@ use Rattle.kif_tree.specs.declared.form.Form.TheOpen.{Form-F}
 use Rattle.kif_tree.specs.declared.form.Form.TheVariants as form
 use Rattle.kif_tree.specs.declared.place.Place.{Place}
 use Rattle.diagnose.proofs.FoundLaws.{contains_nothing, contains_first, contains_later, contains_cases, adds_none, adds_same, adds_both}
-use Rattle.diagnose.proofs.FreeLaws.{or_none, same_variable, same_other, listed_more, contains_listed, listed_contains, not_listed, listed_not, quantifies, bound_quantified, bound_unquantified, quantifier_no_list, bound_names, listing, is_free_variable, is_free_other, is_free_quantified, is_free_parts, lists-List, lists_within, within_lists, no_lists, lists_of_names}
+use Rattle.kif_tree.specs.NameLaws.{lists-List}
+use Rattle.diagnose.proofs.FreeLaws.{or_none, same_variable, same_other, listed_more, contains_listed, listed_contains, not_listed, listed_not, quantifies, bound_quantified, bound_unquantified, quantifier_no_list, bound_names, listing, is_free_variable, is_free_other, is_free_quantified, is_free_parts, lists_within, within_lists, no_lists, lists_of_names}
 use Rattle.diagnose.specs.Found.{Adds, OfSome}
 use Rattle.diagnose.specs.VariableWalk.{is_listed, is_free, is_free_in, Collects, fault, IsOnlyIn, IsUnusedAt, IsFaultAt}
 use Rattle.diagnose.specs.Variables.{IsFreeOnlyIn, with_prefix, implication, HasUnquantified, HasUnused}

@@ -3,6 +3,7 @@ pub mod ClassWords
 pub mod Diagnostics
 pub mod Found
 pub mod Given
+pub mod HashedWords
 pub mod Laws
 pub mod OfLists
 pub mod Order

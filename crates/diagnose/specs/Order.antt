@@ -1,5 +1,5 @@
 -- Diagnostics of one form, as they are put in order.
-use Rattle.std.specs.Prelude.{◌≡◌, ℕ, ◌⊎◌, ◌↔◌, List, ◌++◌, map, Option, Some, None, Contains, slice_get}
+use Rattle.std.specs.Prelude.{◌≡◌, ℕ, ◌⊎◌, ◌↔◌, Bool, true, ◌&&◌, nat_lt, List, [], ◌∷◌, ◌++◌, map, Option, Some, None, Contains, slice_get}
 use Rattle.std.specs.BTreeMap.{BTreeMap, get_by}
 use Rattle.std.specs.Cmp.Lexicographic.{slice_cmp}
 use Rattle.std.specs.Option.{option_cmp}
@@ -71,3 +71,8 @@ pub record Appends (forms : List Located) (found old new : List Diagnostic) : Ty
   pub is : new ≡ old ++ sorted
   pub ascending : AreAscending forms sorted
   pub same : (d : Diagnostic) → Contains sorted d ↔ Contains found d
+
+-- each code is above the one before
+abbrev pub codes_ascend : ℕ → List Diagnostic → Bool
+codes_ascend last [] = true
+codes_ascend last (d ∷ found) = nat_lt last d.code && codes_ascend d.code found

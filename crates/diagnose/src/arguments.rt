@@ -16,7 +16,8 @@ ghost use Rattle.diagnose.specs.OfLists as of_lists;
 ghost use Rattle.diagnose.specs.WordTables.{AreWords};
 
 use crate::diagnostic::Diagnostic;
-use kif_tree::{Form, Located, Place, Text, WordSet};
+use crate::hashed_words::HashedWords;
+use kif_tree::{Form, Located, Place, Text, is_logical_word};
 use sigma_base::NoMemory;
 use signatures::{Arity, Signatures, TypeTold};
 use std::alloc::Global;
@@ -27,7 +28,7 @@ use taxonomy::{ChainKind, Taxonomy};
 struct Given<'a> {
     taxonomy: &'a Taxonomy,
     signatures: &'a Signatures,
-    class_words: &'a WordSet,
+    class_words: &'a HashedWords<'a>,
 }
 
 /// Adds what is wrong with the arguments of the form's lists.
@@ -36,7 +37,7 @@ pub fn add_argument_faults(
     located: &Located,
     taxonomy: &Taxonomy,
     signatures: &Signatures,
-    class_words: &WordSet,
+    class_words: &HashedWords<'_>,
     found: &mut Vec<Diagnostic>,
 ) -> Result<(), NoMemory>
     ensures { OnOk result ((forms : List Located) → taxonomy.now ≡ told_taxonomy forms → AreSignatures forms signatures.now
@@ -90,23 +91,11 @@ fn add_of_parts(
     let Form::Word(text) = head else {
         return Ok(());
     };
-    if is_logical(text.bytes()) {
+    if is_logical_word(text.bytes()) {
         return Ok(());
     }
     add_of_count(alloc, given, place, text, arguments, found)?;
     add_of_types(alloc, given, place, text, arguments, found)
-}
-
-fn is_logical(word: &[u8]) -> bool
-    ensures { result ≡ shape.is_among shape.logical_words word.now }
-{
-    word == b"not".as_slice()
-        || word == b"and".as_slice()
-        || word == b"or".as_slice()
-        || word == b"=>".as_slice()
-        || word == b"<=>".as_slice()
-        || word == b"forall".as_slice()
-        || word == b"exists".as_slice()
 }
 
 // ---- how many arguments
@@ -333,25 +322,25 @@ struct ClassLink<'a> {
 }
 
 /// The words that stand in told `subclass` forms.
-pub fn class_words(alloc: Global, forms: &[Located]) -> Result<WordSet, NoMemory>
+pub fn class_words<'a>(alloc: Global, forms: &'a [Located]) -> Result<HashedWords<'a>, NoMemory>
     ensures { IfOk result (AreWords (spec.IsClassWord (links forms.now))) }
 {
-    let mut words = WordSet::new(alloc);
+    let mut words = HashedWords::new(alloc);
     for located in forms {
-        add_class_words(alloc, &mut words, &located.form)?;
+        add_class_words(&mut words, &located.form)?;
     }
     Ok(words)
 }
 
 /// Adds the form's words, if it tells a subclass.
-fn add_class_words(alloc: Global, words: &mut WordSet, form: &Form) -> Result<(), NoMemory>
+fn add_class_words<'a>(words: &mut HashedWords<'a>, form: &'a Form) -> Result<(), NoMemory>
     ensures { OnOk result ((word : Bytes) → (shape.is_among words.new word ≡ true) ↔ ((shape.is_among words.old word ≡ true) ⊎ class_spec.IsOfSubclassForm form.now word)) }
 {
     let Some(link) = class_link_in(form) else {
         return Ok(());
     };
-    words.add(alloc, link.low.bytes())?;
-    words.add(alloc, link.high.bytes())?;
+    words.add(link.low.bytes())?;
+    words.add(link.high.bytes())?;
     Ok(())
 }
 

@@ -5,8 +5,11 @@
 mod argument_tests;
 mod arguments;
 mod diagnostic;
+mod hashed_words;
 mod laws;
 mod list;
+#[cfg(test)]
+mod list_tests;
 mod order;
 #[cfg(test)]
 mod variable_tests;

@@ -12,10 +12,11 @@ ghost use Rattle.diagnose.specs.declared.diagnostic.Diagnostic.{Diagnostic};
 
 use crate::arguments::{add_argument_faults, class_words};
 use crate::diagnostic::Diagnostic;
+use crate::hashed_words::HashedWords;
 use crate::order::{Positions, append_ordered, positions};
 use crate::variables::add_variable_faults;
 use crate::words::{WordTables, add_word_faults, word_tables};
-use kif_tree::{Form, Located, WordSet, is_headed};
+use kif_tree::{Form, Located, is_headed};
 use sigma_base::NoMemory;
 use signatures::Signatures;
 use std::alloc::Global;
@@ -23,9 +24,9 @@ use taxonomy::Taxonomy;
 
 /// What is looked up at each form.
 #[derive(Debug, Drop)]
-pub struct Tables {
-    pub words: WordTables,
-    pub class_words: WordSet,
+pub struct Tables<'a> {
+    pub words: WordTables<'a>,
+    pub class_words: HashedWords<'a>,
     pub positions: Positions,
 }
 
@@ -38,12 +39,12 @@ fn is_shown(form: &Form) -> bool
         || is_headed(form, b"format")
 }
 
-fn tables_of(
+fn tables_of<'a>(
     alloc: Global,
-    forms: &[Located],
+    forms: &'a [Located],
     taxonomy: &Taxonomy,
-    signatures: &Signatures,
-) -> Result<Tables, NoMemory>
+    signatures: &'a Signatures,
+) -> Result<Tables<'a>, NoMemory>
     requires places { PlacesDiffer forms.now }
     requires taxonomy { taxonomy.now ≡ told_taxonomy forms.now }
     requires signatures { AreSignatures forms.now signatures.now }
@@ -60,13 +61,13 @@ fn tables_of(
 }
 
 /// What is wrong at a form that isn't only shown. `seen` are the words of earlier forms, and gets those of this one.
-fn found_at(
+fn found_at<'a>(
     alloc: Global,
-    located: &Located,
+    located: &'a Located,
     taxonomy: &Taxonomy,
     signatures: &Signatures,
-    tables: &Tables,
-    seen: &mut WordSet,
+    tables: &Tables<'_>,
+    seen: &mut HashedWords<'a>,
 ) -> Result<Vec<Diagnostic>, NoMemory>
     ensures words { OnOk result ((before : List Located) → AreSeen before seen.old → relations.is_shown located.now.form ≡ false → AreSeen (before ++ located.now ∷ []) seen.new) }
     ensures found { IfOk result (λ found. (before after : List Located) → PlacesDiffer (before ++ located.now ∷ after) → relations.is_shown located.now.form ≡ false → so_far.AreTables (before ++ located.now ∷ after) taxonomy.now signatures.now tables.now → AreSeen before seen.old → (d : Diagnostic) → Contains found.items d ↔ so_far.IsAt (before ++ located.now ∷ after) located.now d) }
@@ -86,14 +87,14 @@ fn found_at(
 }
 
 /// Adds the diagnostics of one form.
-fn add_form(
+fn add_form<'a>(
     alloc: Global,
     forms: &[Located],
-    located: &Located,
+    located: &'a Located,
     taxonomy: &Taxonomy,
     signatures: &Signatures,
-    tables: &Tables,
-    seen: &mut WordSet,
+    tables: &Tables<'_>,
+    seen: &mut HashedWords<'a>,
     list: &mut Vec<Diagnostic>,
 ) -> Result<(), NoMemory>
     ensures { OnOk result ((before after : List Located) → forms.now ≡ before ++ located.now ∷ after → PlacesDiffer forms.now → so_far.AreTables forms.now taxonomy.now signatures.now tables.now → so_far.AreSoFar forms.now before seen.old list.old.items → so_far.AreSoFar forms.now (before ++ located.now ∷ []) seen.new list.new.items) }
@@ -120,7 +121,7 @@ pub fn diagnose(
     ensures { IfOk result (λ list. spec.AreDiagnostics forms.now list.items) }
 {
     let tables = tables_of(alloc, forms, taxonomy, signatures)?;
-    let mut seen = WordSet::new(alloc);
+    let mut seen = HashedWords::new(alloc);
     let mut list = Vec::new(alloc);
     for located in forms {
         add_form(

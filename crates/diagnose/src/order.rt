@@ -1,5 +1,5 @@
 //! The order of diagnostics.
-ghost use Rattle.std.specs.Prelude.{◌≡◌, IfOk, OnOk};
+ghost use Rattle.std.specs.Prelude.{◌≡◌, ◌++◌, IfOk, OnOk};
 ghost use Rattle.kif_tree.specs.Places.{PlacesDiffer};
 ghost use Rattle.diagnose.specs.Order as spec;
 
@@ -84,8 +84,43 @@ fn ranks(
     Ok(ranks)
 }
 
-/// Adds the diagnostics that were found at the place, in order and each once.
+/// Whether the codes ascend, each above the one before, from `last` on.
+fn codes_ascend(last: u8, found: &[Diagnostic]) -> bool
+    ensures { result ≡ spec.codes_ascend last found.now }
+{
+    let [first, rest @ ..] = found else {
+        return true;
+    };
+    last < first.code && codes_ascend(first.code, rest)
+}
+
+/// Adds the diagnostics that were found at the place, in order and each once. The few of most forms stand in order as they were found.
 pub fn append_ordered(
+    alloc: Global,
+    forms: &[Located],
+    positions: &Positions,
+    place: Place,
+    found: Vec<Diagnostic>,
+    list: &mut Vec<Diagnostic>,
+) -> Result<(), NoMemory>
+    ensures { OnOk result (spec.ArePositions forms.now positions.now → spec.AreKnown forms.now place found.items → spec.Appends forms.now found.items list.old.items list.new.items) }
+{
+    if codes_ascend(0, found.as_slice()) {
+        return append_all(found, list);
+    }
+    append_ranked(alloc, forms, positions, place, found, list)
+}
+
+fn append_all(found: Vec<Diagnostic>, list: &mut Vec<Diagnostic>) -> Result<(), NoMemory>
+    ensures { OnOk result (list.new.items ≡ list.old.items ++ found.items) }
+{
+    let mut found = found;
+    list.append(&mut found)?;
+    Ok(())
+}
+
+/// Adds the diagnostics by their ranks.
+fn append_ranked(
     alloc: Global,
     forms: &[Located],
     positions: &Positions,

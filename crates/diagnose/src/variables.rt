@@ -1,7 +1,6 @@
 //! Variables that are free where they should be quantified, or quantified where they aren't free.
 ghost use Rattle.std.specs.Prelude.{◌≡◌, ◌&&◌, ◌++◌, ◌∷◌, [], not, codes, IfOk, OnOk, MatchOption};
 ghost use Rattle.std.specs.Str.{bytes_eq};
-ghost use Rattle.kif_tree.specs.Names as names;
 ghost use Rattle.kif_tree.specs.Shape as shape;
 ghost use Rattle.kif_tree.specs.Terms.{Bytes};
 ghost use Rattle.kif_tree.specs.declared.form.Form.{Form, out-Form};
@@ -12,7 +11,7 @@ ghost use Rattle.diagnose.specs.Variables as variables;
 ghost use Rattle.diagnose.specs.VariableWalk as spec;
 
 use crate::diagnostic::Diagnostic;
-use kif_tree::{Form, Located, Place, Text, WordSet};
+use kif_tree::{Form, Located, Place, Text, WordSet, is_quantifier, lists_names, parts_of};
 use sigma_base::NoMemory;
 use std::alloc::Global;
 
@@ -175,7 +174,7 @@ fn collect_list(
         [head, names, body] if quantifies(head, names) => {
             let mut within = WordSet::new(alloc);
             collect(alloc, place, body, &mut within, found)?;
-            leave(alloc, place, parts_in(names), within, free, found)
+            leave(alloc, place, parts_of(names), within, free, found)
         }
         _ => collect_all(alloc, place, parts, free, found),
     }
@@ -252,37 +251,5 @@ fn quantifies(head: &Form, names: &Form) -> bool
     match names {
         Form::List(parts) => is_quantifier(head) && lists_names(parts.items()),
         _ => false,
-    }
-}
-
-fn is_quantifier(head: &Form) -> bool
-    ensures { result ≡ shape.is_quantifier head.now }
-{
-    match head {
-        Form::Word(text) => {
-            text.bytes() == b"forall".as_slice() || text.bytes() == b"exists".as_slice()
-        }
-        _ => false,
-    }
-}
-
-fn lists_names(parts: &[Form]) -> bool
-    ensures { result ≡ shape.lists_names parts.now }
-{
-    for part in parts {
-        if !matches!(part, Form::Variable(_) | Form::Row(_)) {
-            return false;
-        }
-    }
-    true
-}
-
-/// The parts of a list; any other form has none.
-fn parts_in(form: &Form) -> &[Form]
-    ensures { result.now ≡ names.parts_in form.now }
-{
-    match form {
-        Form::List(parts) => parts.items(),
-        _ => &[],
     }
 }

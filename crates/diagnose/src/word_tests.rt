@@ -1,7 +1,8 @@
 //! What is wrong with words of few forms, against values worked by hand.
 use crate::Diagnostic;
+use crate::hashed_words::HashedWords;
 use crate::words::{add_word_faults, word_tables};
-use kif_tree::{Form, Located, Place, Text, WordSet, is_headed};
+use kif_tree::{Form, Located, Place, Text, is_headed};
 use sigma_base::{Listed, NoMemory};
 use signatures::Signatures;
 use std::alloc::Global;
@@ -24,7 +25,7 @@ fn part(alloc: Global, text: &[u8]) -> Result<Form, NoMemory> {
     }
 }
 
-fn list(alloc: Global, text: &[u8]) -> Result<Form, NoMemory> {
+pub(crate) fn list(alloc: Global, text: &[u8]) -> Result<Form, NoMemory> {
     let mut parts = Listed::new(alloc);
     for spelled in text.split(|byte| *byte == b' ') {
         parts.push(part(alloc, spelled)?)?;
@@ -67,7 +68,7 @@ fn faults(alloc: Global, text: &[u8]) -> Result<Vec<Diagnostic>, NoMemory> {
     let taxonomy = Taxonomy::of(alloc, forms.items())?;
     let signatures = Signatures::of(alloc, forms.items(), &taxonomy)?;
     let tables = word_tables(alloc, forms.items(), &signatures)?;
-    let mut seen = WordSet::new(alloc);
+    let mut seen = HashedWords::new(alloc);
     let mut found = Vec::new(alloc);
     for located in forms.items() {
         if is_shown(&located.form) {

@@ -1,7 +1,7 @@
 //! What is missing of words, or wrong with them.
 ghost use Rattle.std.specs.Prelude.{◌≡◌, ◌∷◌, ◌++◌, List, [], true, false, None, Some, IfOk, OnOk, MatchOption};
 ghost use Rattle.std.specs.Str.{bytes_eq};
-ghost use Rattle.kif_tree.specs.Shape.{is_among, logical_words};
+ghost use Rattle.kif_tree.specs.Shape.{is_among};
 ghost use Rattle.kif_tree.specs.Terms.{Bytes};
 ghost use Rattle.kif_tree.specs.declared.place.Located.{Located};
 ghost use Rattle.taxonomy.specs.Tables.{Tells};
@@ -14,7 +14,8 @@ ghost use Rattle.diagnose.specs.Words.{documents};
 ghost use Rattle.diagnose.specs.WordTables.{AreWords, IsDocumented, IsUnstated, AreSeen};
 
 use crate::diagnostic::Diagnostic;
-use kif_tree::{Form, Located, Place, Text, WordSet, is_headed};
+use crate::hashed_words::HashedWords;
+use kif_tree::{Form, Located, Place, Text, is_headed, is_logical_word};
 use sigma_base::NoMemory;
 use signatures::{Arity, Signatures, built_in};
 use std::alloc::Global;
@@ -22,9 +23,9 @@ use taxonomy::Taxonomy;
 
 /// What is looked up for words.
 #[derive(Debug, Drop)]
-pub struct WordTables {
-    documented: WordSet,
-    unstated: WordSet,
+pub struct WordTables<'a> {
+    documented: HashedWords<'a>,
+    unstated: HashedWords<'a>,
 }
 
 /// The second part of a list, where that is a word.
@@ -54,15 +55,15 @@ fn documented_in(located: &Located) -> Option<&Text>
 }
 
 /// The words that forms document.
-fn documented_words(alloc: Global, forms: &[Located]) -> Result<WordSet, NoMemory>
+fn documented_words<'a>(alloc: Global, forms: &'a [Located]) -> Result<HashedWords<'a>, NoMemory>
     ensures { IfOk result (AreWords (IsDocumented forms.now)) }
 {
-    let mut words = WordSet::new(alloc);
+    let mut words = HashedWords::new(alloc);
     for located in forms {
         let Some(word) = documented_in(located) else {
             continue;
         };
-        words.add(alloc, word.bytes())?;
+        words.add(word.bytes())?;
     }
     Ok(words)
 }
@@ -77,25 +78,28 @@ fn is_unstated(arity: Arity) -> bool
 }
 
 /// The relation names without a stated arity.
-fn unstated_words(alloc: Global, signatures: &Signatures) -> Result<WordSet, NoMemory>
+fn unstated_words<'a>(
+    alloc: Global,
+    signatures: &'a Signatures,
+) -> Result<HashedWords<'a>, NoMemory>
     ensures { IfOk result (spec.AreUnstated signatures.now) }
 {
-    let mut words = WordSet::new(alloc);
+    let mut words = HashedWords::new(alloc);
     for name in signatures.relations() {
         if !is_unstated(signatures.arity(name.bytes())) {
             continue;
         }
-        words.add(alloc, name.bytes())?;
+        words.add(name.bytes())?;
     }
     Ok(words)
 }
 
 /// What is looked up for the words of the forms.
-pub fn word_tables(
+pub fn word_tables<'a>(
     alloc: Global,
-    forms: &[Located],
-    signatures: &Signatures,
-) -> Result<WordTables, NoMemory>
+    forms: &'a [Located],
+    signatures: &'a Signatures,
+) -> Result<WordTables<'a>, NoMemory>
     ensures documented { IfOk result (λ tables. AreWords (IsDocumented forms.now) tables.documented) }
     ensures unstated { IfOk result (λ tables. AreSignatures forms.now signatures.now → AreWords (IsUnstated forms.now) tables.unstated) }
 {
@@ -107,23 +111,11 @@ pub fn word_tables(
     })
 }
 
-fn is_logical(word: &[u8]) -> bool
-    ensures { result ≡ is_among logical_words word.now }
-{
-    word == b"not".as_slice()
-        || word == b"and".as_slice()
-        || word == b"or".as_slice()
-        || word == b"=>".as_slice()
-        || word == b"<=>".as_slice()
-        || word == b"forall".as_slice()
-        || word == b"exists".as_slice()
-}
-
 /// Whether the word is neither logical nor built-in.
 fn is_plain(word: &[u8]) -> bool
     ensures { result ≡ spec.is_plain word.now }
 {
-    if is_logical(word) {
+    if is_logical_word(word) {
         return false;
     }
     built_in(word).is_none()
@@ -135,7 +127,7 @@ fn lacks_parent(taxonomy: &Taxonomy, word: &[u8]) -> bool
     taxonomy.parents(word).is_empty() && word != b"Entity".as_slice() && is_plain(word)
 }
 
-fn lacks_documentation(tables: &WordTables, word: &[u8]) -> bool
+fn lacks_documentation(tables: &WordTables<'_>, word: &[u8]) -> bool
     ensures { result ≡ spec.lacks_documentation tables.now word.now }
 {
     !tables.documented.has(word) && is_plain(word)
@@ -171,7 +163,7 @@ fn add_faults(
     word: &[u8],
     place: Place,
     taxonomy: &Taxonomy,
-    tables: &WordTables,
+    tables: &WordTables<'_>,
     found: &mut Vec<Diagnostic>,
 ) -> Result<(), NoMemory>
     ensures { OnOk result (Adds (spec.IsFault taxonomy.now tables.now place word.now) found.old.items found.new.items) }
@@ -185,34 +177,33 @@ fn add_faults(
 }
 
 /// Adds what is missing of the word, if it wasn't seen before.
-fn add_if_new(
+fn add_if_new<'a>(
     alloc: Global,
-    word: &[u8],
+    word: &'a [u8],
     place: Place,
     taxonomy: &Taxonomy,
-    tables: &WordTables,
-    seen: &mut WordSet,
+    tables: &WordTables<'_>,
+    seen: &mut HashedWords<'a>,
     found: &mut Vec<Diagnostic>,
 ) -> Result<(), NoMemory>
     ensures seen { OnOk result (spec.Gains (spec.is_word word.now) seen.old seen.new) }
     ensures found { OnOk result (Adds (spec.IsNew (spec.IsFault taxonomy.now tables.now place) seen.old (spec.is_word word.now)) found.old.items found.new.items) }
 {
-    if seen.has(word) {
+    if !seen.add(word)? {
         return Ok(());
     }
-    seen.add(alloc, word)?;
     add_faults(alloc, word, place, taxonomy, tables, found)
 }
 
 /// Adds what is missing of the words of the form that weren't seen before.
 #[cycle(add_new_words)]
-fn add_new_words(
+fn add_new_words<'a>(
     alloc: Global,
-    form: &Form,
+    form: &'a Form,
     place: Place,
     taxonomy: &Taxonomy,
-    tables: &WordTables,
-    seen: &mut WordSet,
+    tables: &WordTables<'_>,
+    seen: &mut HashedWords<'a>,
     found: &mut Vec<Diagnostic>,
 ) -> Result<(), NoMemory>
     ensures seen { OnOk result (spec.Gains (spec.occurs_in form.now) seen.old seen.new) }
@@ -276,12 +267,12 @@ fn add_disjoint(
 
 /// Adds what is wrong with words at the form: with those that no earlier form has, and with the word of which it is the first to tell a parent.
 /// `seen` are the words of earlier forms, and gets those of this one.
-pub fn add_word_faults(
+pub fn add_word_faults<'a>(
     alloc: Global,
-    located: &Located,
+    located: &'a Located,
     taxonomy: &Taxonomy,
-    tables: &WordTables,
-    seen: &mut WordSet,
+    tables: &WordTables<'_>,
+    seen: &mut HashedWords<'a>,
     found: &mut Vec<Diagnostic>,
 ) -> Result<(), NoMemory>
     ensures seen { OnOk result ((before : List Located) → AreSeen before seen.old → is_shown located.now.form ≡ false → AreSeen (before ++ located.now ∷ []) seen.new) }

@@ -1,5 +1,7 @@
 pub mod ClauseLaws
+pub mod FreeLaws
 pub mod HeadLaws
+pub mod NameSetLaws
 pub mod PrintLaws
 pub mod ProfileLaws
 pub mod ShapeLaws

@@ -1,5 +1,5 @@
 -- Names gathered one form after another are each found once, at their first place.
-use Rattle.std.proofs.Common.{◌≡◌, ℕ, ◌+◌, ◌<◌, List, [], ◌∷◌, ◌++◌, map, take, length, get_or, filter, Bool, true, false, not, ◌||◌, ◌&&◌, if◌then◌else◌, refl, sym, ap, ap₂, ◌∙◌, append_assoc}
+use Rattle.std.proofs.Common.{◌≡◌, ℕ, ◌+◌, ◌<◌, List, [], ◌∷◌, ◌++◌, map, take, length, get_or, filter, Bool, true, false, not, ◌||◌, ◌&&◌, if◌then◌else◌, refl, sym, ap, ◌∙◌, append_assoc}
 use Rattle.std.specs.List.{list_any}
 use Rattle.std.specs.Str.{bytes_eq}
 use Rattle.std.proofs.lemmas.List.{map_more, take_more}
@@ -8,31 +8,10 @@ use Rattle.sigma_base.specs.Lists.{Each, each_filter}
 use Rattle.kif_tree.specs.declared.clause.Literal.{Literal}
 use Rattle.kif_tree.specs.Terms.{Bytes, variables, joined, distinct, joined_once}
 use Rattle.kif_tree.specs.Clauses.{Literals, clause_variables}
+use Rattle.kif_tree.specs.NameLaws.{filter_both, filter_alike}
 
 abbrev is_new : List Bytes → Bytes → Bool
 is_new found name = not (list_any (bytes_eq name) found)
-
--- ---- filters
-
-filter_append : {X : Type 0} (p : X → Bool) (xs ys : List X) → filter p (xs ++ ys) ≡ filter p xs ++ filter p ys
-filter_append p [] ys = refl
-filter_append {X = X} p (x ∷ xs) ys = ap (λ (zs : List X). if p x then x ∷ zs else zs) (filter_append p xs ys) ∙ pushed (p x)
-  where
-    pushed : (b : Bool) → (if b then x ∷ (filter p xs ++ filter p ys) else filter p xs ++ filter p ys) ≡ (if b then x ∷ filter p xs else filter p xs) ++ filter p ys
-    pushed true = refl
-    pushed false = refl
-
-filter_both : {X : Type 0} (p q : X → Bool) (xs : List X) → filter p (filter q xs) ≡ filter (λ x. q x && p x) xs
-filter_both p q [] = refl
-filter_both {X = X} p q (x ∷ xs) = by_case (q x) (p x) (filter_both p q xs)
-  where
-    by_case : (b c : Bool) → filter p (filter q xs) ≡ filter (λ x. q x && p x) xs → filter p (if b then x ∷ filter q xs else filter q xs) ≡ (if (b && p x) then x ∷ filter (λ x. q x && p x) xs else filter (λ x. q x && p x) xs)
-    by_case true c rest = ap (λ (zs : List X). if p x then x ∷ zs else zs) rest
-    by_case false c rest = rest
-
-filter_alike : {X : Type 0} (p q : X → Bool) → ((x : X) → p x ≡ q x) → (xs : List X) → filter p xs ≡ filter q xs
-filter_alike p q e [] = refl
-filter_alike {X = X} p q e (x ∷ xs) = ap₂ (λ (b : Bool) (zs : List X). if b then x ∷ zs else zs) (e x) (filter_alike p q e xs)
 
 -- ---- one more name
 
@@ -44,7 +23,7 @@ any_append name (x ∷ xs) ys = ap (λ (b : Bool). bytes_eq name x || b) (any_ap
     regroup true b c = refl
     regroup false b c = refl
 
-flipped : (a b : Bytes) → bytes_eq a b ≡ bytes_eq b a
+pub flipped : (a b : Bytes) → bytes_eq a b ≡ bytes_eq b a
 flipped a b = by_case (bytes_eq a b) (bytes_eq b a) refl refl
   where
     by_case : (x y : Bool) → bytes_eq a b ≡ x → bytes_eq b a ≡ y → x ≡ y

@@ -3,6 +3,7 @@ pub mod CompoundLaws
 pub mod FormLaws
 pub mod Laws
 pub mod NameLaws
+pub mod NameSets
 pub mod Names
 pub mod Places
 pub mod Printed

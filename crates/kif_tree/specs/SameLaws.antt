@@ -22,11 +22,11 @@ same-Word : (text : Bytes) (g : Form) → same (form.Word text) g ≡ same_layer
 unfolding same
 same-Word text = at (form.Word text) (Form-F.Word text) (fold-Word (Form → Bool) step text)
 
-same-Variable : (text : Bytes) (g : Form) → same (form.Variable text) g ≡ same_layer (Form-F.Variable text) (out-Form g)
+pub same-Variable : (text : Bytes) (g : Form) → same (form.Variable text) g ≡ same_layer (Form-F.Variable text) (out-Form g)
 unfolding same
 same-Variable text = at (form.Variable text) (Form-F.Variable text) (fold-Variable (Form → Bool) step text)
 
-same-Row : (text : Bytes) (g : Form) → same (form.Row text) g ≡ same_layer (Form-F.Row text) (out-Form g)
+pub same-Row : (text : Bytes) (g : Form) → same (form.Row text) g ≡ same_layer (Form-F.Row text) (out-Form g)
 unfolding same
 same-Row text = at (form.Row text) (Form-F.Row text) (fold-Row (Form → Bool) step text)
 

@@ -7,6 +7,7 @@ mod form;
 mod free;
 mod heads;
 mod laws;
+mod name_set;
 mod names;
 mod place;
 mod print;
@@ -16,6 +17,8 @@ mod subst;
 mod terms;
 #[cfg(test)]
 mod tests;
+#[cfg(test)]
+mod tests_free;
 #[cfg(test)]
 mod tests_profile;
 mod text;
@@ -27,6 +30,7 @@ pub use form::{Form, Forms, copy_all};
 pub use free::free_names;
 pub use heads::{is_answer, is_headed};
 pub use laws::{agreement_law, composition_law, equality_law, ground_law};
+pub use name_set::NameSet;
 pub use names::{bound, is_function_word, is_logical_word, operands, parts_of};
 pub use place::{LoadName, Located, Place};
 pub use print::{print_clause, print_form, print_place};

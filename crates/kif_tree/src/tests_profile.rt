@@ -16,7 +16,7 @@ fn end_word(alloc: Global, parts: &mut Forms, word: &mut Text) -> Result<(), NoM
     parts.push(leaf_of(alloc, word.bytes())?)
 }
 
-fn read(alloc: Global, spelled: &str) -> Result<Forms, NoMemory> {
+pub(crate) fn read(alloc: Global, spelled: &str) -> Result<Forms, NoMemory> {
     let mut outer: Vec<Forms> = Vec::new(alloc);
     let mut parts = Listed::new(alloc);
     let mut word = Text::new(alloc);

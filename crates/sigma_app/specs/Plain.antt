@@ -1,11 +1,12 @@
 -- Plain atoms: the facts and queries that the tool answers.
-use Rattle.std.specs.Prelude.{◌≡◌, nat_eq, Bool, true, false, not, ◌&&◌, ◌||◌, ◌⊎◌, List, [], ◌∷◌, codes}
-use Rattle.std.specs.List.{list_all, ends_with}
+use Rattle.std.specs.Prelude.{◌≡◌, Bool, true, false, not, ◌&&◌, ◌||◌, ◌⊎◌, List, [], ◌∷◌, codes}
+use Rattle.std.specs.List.{list_all}
 use Rattle.std.specs.Char.{is_ascii_alphabetic}
 use Rattle.std.specs.Str.{bytes_eq}
 use Rattle.sigma_base.specs.Lists.{Each}
 use Rattle.kif_tree.specs.declared.form.Form.{Form}
 use Rattle.kif_tree.specs.declared.form.Form.TheVariants as form
+use Rattle.kif_tree.specs.Names.{is_function_word}
 use Rattle.kif_tree.specs.Terms.{Bytes}
 use Rattle.kif_tree.specs.Shape.{logical_words, is_among}
 use Rattle.kif_reader.specs.Chunks.{is_word_byte}
@@ -20,12 +21,8 @@ is_plain_word (byte ∷ bytes) = is_ascii_alphabetic byte && list_all is_word_by
 abbrev pub is_special : Bytes → Bool
 is_special word = is_among logical_words word || is_among shown_heads word || bytes_eq word (codes "equal")
 
--- the last two bytes are `Fn`, as in the name of a function
-unfoldable pub names_function : Bytes → Bool
-names_function word = ends_with nat_eq word (codes "Fn")
-
 abbrev pub is_plain_head : Bytes → Bool
-is_plain_head word = is_plain_word word && not (is_special word) && not (names_function word)
+is_plain_head word = is_plain_word word && not (is_special word) && not (is_function_word word)
 
 pub record IsPlainWord (f : Form) : Type 0 where
   pub text : Bytes

@@ -3,8 +3,9 @@ ghost use Rattle.std.specs.Prelude.{◌≡◌, ◌++◌, IfOk, OnOk};
 ghost use Rattle.std.specs.List.{flat_map};
 ghost use Rattle.sigma_app.specs.CheckPage as spec;
 
+use crate::places::append_place;
 use diagnose::Diagnostic;
-use kif_tree::{LoadName, Place, Text, print_place};
+use kif_tree::{LoadName, Place, Text};
 use sigma_base::NoMemory;
 use std::alloc::Global;
 
@@ -29,70 +30,53 @@ fn code_text(code: u8) -> &'static [u8]
     }
 }
 
-fn append_other(
-    alloc: Global,
-    out: &mut Text,
-    names: &[LoadName],
-    other: &Option<Place>,
-) -> Result<(), NoMemory>
+fn append_other(out: &mut Text, names: &[LoadName], other: &Option<Place>) -> Result<(), NoMemory>
     ensures { OnOk result (out.new ≡ out.old ++ spec.other_text names.now other.now) }
 {
     match other {
         None => Ok(()),
         Some(place) => {
             out.append(b" [")?;
-            out.append(print_place(alloc, names, place)?.bytes())?;
+            append_place(out, names, place)?;
             out.append(b"]")
         }
     }
 }
 
 #[tactic(auto, unfolding(crate::specs::CheckPage::where_text))]
-fn append_where(
-    alloc: Global,
-    out: &mut Text,
-    names: &[LoadName],
-    diagnostic: &Diagnostic,
-) -> Result<(), NoMemory>
+fn append_where(out: &mut Text, names: &[LoadName], diagnostic: &Diagnostic) -> Result<(), NoMemory>
     ensures { OnOk result (out.new ≡ out.old ++ spec.where_text names.now diagnostic.now) }
 {
     out.append_decimal(u64::from(diagnostic.code))?;
     out.push(b' ')?;
-    out.append(print_place(alloc, names, &diagnostic.place)?.bytes())
+    append_place(out, names, &diagnostic.place)
 }
 
 #[tactic(auto, unfolding(crate::specs::CheckPage::what_text))]
-fn append_what(
-    alloc: Global,
-    out: &mut Text,
-    names: &[LoadName],
-    diagnostic: &Diagnostic,
-) -> Result<(), NoMemory>
+fn append_what(out: &mut Text, names: &[LoadName], diagnostic: &Diagnostic) -> Result<(), NoMemory>
     ensures { OnOk result (out.new ≡ out.old ++ spec.what_text names.now diagnostic.now) }
 {
     out.append(diagnostic.term.bytes())?;
     out.push(b' ')?;
     out.append(code_text(diagnostic.code))?;
-    append_other(alloc, out, names, &diagnostic.other)
+    append_other(out, names, &diagnostic.other)
 }
 
 #[tactic(auto, unfolding(crate::specs::CheckPage::diagnostic_text))]
 fn append_diagnostic(
-    alloc: Global,
     out: &mut Text,
     names: &[LoadName],
     diagnostic: &Diagnostic,
 ) -> Result<(), NoMemory>
     ensures { OnOk result (out.new ≡ out.old ++ spec.diagnostic_text names.now diagnostic.now) }
 {
-    append_where(alloc, out, names, diagnostic)?;
+    append_where(out, names, diagnostic)?;
     out.push(b' ')?;
-    append_what(alloc, out, names, diagnostic)?;
+    append_what(out, names, diagnostic)?;
     out.push(b'\n')
 }
 
 fn append_diagnostics(
-    alloc: Global,
     out: &mut Text,
     names: &[LoadName],
     list: &[Diagnostic],
@@ -100,7 +84,7 @@ fn append_diagnostics(
     ensures { OnOk result (out.new ≡ out.old ++ flat_map (spec.diagnostic_text names.now) list.now) }
 {
     for diagnostic in list {
-        append_diagnostic(alloc, out, names, diagnostic)?;
+        append_diagnostic(out, names, diagnostic)?;
     }
     Ok(())
 }
@@ -111,7 +95,7 @@ pub fn check_page(alloc: Global, names: &[LoadName], list: &[Diagnostic]) -> Res
     ensures { IfOk result (λ page. page ≡ spec.check_page names.now list.now) }
 {
     let mut page = Text::new(alloc);
-    append_diagnostics(alloc, &mut page, names, list)?;
+    append_diagnostics(&mut page, names, list)?;
     page.append_decimal(list.len() as u64)?;
     page.append(b" diagnostics\n")?;
     Ok(page)

@@ -10,6 +10,7 @@ mod gather;
 mod laws;
 mod matching;
 mod page;
+mod places;
 mod plain;
 mod proof;
 mod refusals;

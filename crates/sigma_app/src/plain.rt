@@ -8,7 +8,7 @@ ghost use Rattle.signatures.specs.Arities.{shown_heads};
 ghost use Rattle.sigma_app.specs.Plain as spec;
 ghost use Rattle.sigma_app.specs.Tool.{IsPlainFact};
 
-use kif_tree::{Form, Located};
+use kif_tree::{Form, Located, is_function_word, is_logical_word};
 
 fn is_word_byte(byte: u8) -> bool
     ensures { result ≡ chunks.is_word_byte byte }
@@ -35,18 +35,6 @@ fn is_plain_word(text: &[u8]) -> bool
     first.is_ascii_alphabetic() && are_word_bytes(rest)
 }
 
-fn is_logical(word: &[u8]) -> bool
-    ensures { result ≡ shape.is_among shape.logical_words word.now }
-{
-    word == b"not".as_slice()
-        || word == b"and".as_slice()
-        || word == b"or".as_slice()
-        || word == b"=>".as_slice()
-        || word == b"<=>".as_slice()
-        || word == b"forall".as_slice()
-        || word == b"exists".as_slice()
-}
-
 fn heads_shown(word: &[u8]) -> bool
     ensures { result ≡ shape.is_among shown_heads word.now }
 {
@@ -58,20 +46,13 @@ fn heads_shown(word: &[u8]) -> bool
 fn is_special(word: &[u8]) -> bool
     ensures { result ≡ spec.is_special word.now }
 {
-    is_logical(word) || heads_shown(word) || word == b"equal".as_slice()
-}
-
-#[tactic(auto, unfolding(crate::specs::Plain::names_function))]
-fn names_function(word: &[u8]) -> bool
-    ensures { result ≡ spec.names_function word.now }
-{
-    word.ends_with(b"Fn")
+    is_logical_word(word) || heads_shown(word) || word == b"equal".as_slice()
 }
 
 fn is_plain_head(word: &[u8]) -> bool
     ensures { result ≡ spec.is_plain_head word.now }
 {
-    is_plain_word(word) && !is_special(word) && !names_function(word)
+    is_plain_word(word) && !is_special(word) && !is_function_word(word)
 }
 
 fn is_plain_argument(form: &Form, variables: bool) -> bool

@@ -20,7 +20,7 @@ pub struct Run {
     printed: &'static str,
 }
 
-pub const fn quiet(
+pub(crate) const fn quiet(
     words: &'static [&'static str],
     files: &'static [File],
     status: u8,
@@ -29,7 +29,7 @@ pub const fn quiet(
     failing(words, files, &[], &[], status, printed)
 }
 
-pub const fn failing(
+pub(crate) const fn failing(
     words: &'static [&'static str],
     files: &'static [File],
     failing_fetches: &'static [u64],

@@ -1,56 +1,90 @@
 -- Tables of types, one for each number of an argument.
-use Rattle.std.proofs.Common.{◌≡◌, ℕ, suc, zero, ◌+◌, ◌<◌, ◌≤◌, ◌||◌, ◌&&◌, List, [], ◌∷◌, length, get_or, take, Bool, true, false, refl, sym, ap, subst, ◌∙◌, arith, inr, codes, if◌then◌else◌, nat_eq}
-use Rattle.std.specs.Prelude.{Option, Some, None, unwrap_or}
+use Rattle.std.proofs.Common.{◌≡◌, ℕ, ◌+◌, ◌<◌, ◌&&◌, List, [], ◌∷◌, length, get_or, take, Bool, true, false, refl, sym, ap, subst, ◌∙◌, inr, codes, if◌then◌else◌, nat_eq}
+use Rattle.std.specs.Prelude.{Option, Some, None, is_some}
+use Rattle.std.specs.HashMap.{HashMap, get}
 use Rattle.std.specs.List.{filter_map, cons_option}
 use Rattle.std.specs.Str.{bytes_eq}
-use Rattle.std.proofs.lemmas.List.{take_all}
-use Rattle.std.proofs.lemmas.Bool.Decides.{nat_tests}
 use Rattle.sigma_base.specs.Lists.{Each, each_map}
 use Rattle.kif_tree.specs.Terms.{Bytes}
 use Rattle.kif_tree.specs.declared.place.Located.{Located}
 use Rattle.taxonomy.proofs.GraphLaws.{each_take_more}
-use Rattle.taxonomy.specs.Told.{ToldArgument, told_argument, arguments}
+use Rattle.taxonomy.specs.Told.{links, ToldArgument, told_argument, arguments}
 use Rattle.signatures.specs.declared.told.TypeTold.{TypeTold}
-use Rattle.signatures.specs.declared.signatures.ArgumentTypes.{ArgumentTypes}
-use Rattle.signatures.specs.ArgumentTables.{has_number, IsTable, IsThere, AddsNumber, AreTables}
-use Rattle.signatures.specs.Inherited.{value_in}
-use Rattle.signatures.specs.Tables.{types_at}
+use Rattle.signatures.specs.declared.inherited.Inherited.{Inherited}
+use Rattle.signatures.specs.ArgumentTables.{ArgumentTypes, IsTable, AreRight, IsThere, AreLeft, AddsNumber, AreTables}
+use Rattle.signatures.specs.Inherited.{Inherits}
+use Rattle.signatures.specs.Tables.{types_by as types_of}
+use Rattle.signatures.specs.TypeTables.{NumberedTypes, types_for, type_at, as_found}
 use Rattle.signatures.specs.Types.{type_told, tells_subclass, type_in, own_types, AreTypes}
-use Rattle.signatures.proofs.TypeLaws.{are_types}
+use Rattle.signatures.specs.WordTables.{Key, find}
+use Rattle.signatures.proofs.TypeLaws.{are_types, flip, equal}
 
-same_number : (n : ℕ) → nat_eq n n ≡ true
-same_number n = grind (arith, nat_tests)
+module _ {S T : Type 0} (forms : List Located) where
+  pub number_none : (own : NumberedTypes S) (tables : ArgumentTypes T) (located : Located) → told_argument located ≡ None → AddsNumber forms own own tables tables located
+  number_none own tables located none = record { right = λ l r. r; left = λ l. l; kept = λ n h. h; here = λ told e. let no_way : Some told ≡ None = sym e ∙ none in absurd (cc) }
 
-either_false : (a b : Bool) → (a || b) ≡ false → (a ≡ false) × (b ≡ false)
-either_false true b h = absurd (cc)
-either_false false b h = (refl, h)
+  pub number_there : (own : NumberedTypes S) (tables : ArgumentTypes T) (located : Located) (told : ToldArgument) (b : Bool) → told_argument located ≡ Some told → b ≡ is_some (get nat_eq tables told.number) → b ≡ true → AddsNumber forms own own tables tables located
+  number_there own tables located told b is found there = record {
+    right = λ l r. r;
+    left = λ l. l;
+    kept = λ n h. h;
+    here = λ other e. let same : told ≡ other = one told other is e in ap (λ (t : ToldArgument). is_some (get nat_eq tables t.number)) (sym same) ∙ sym found ∙ there;
+  }
+    where
+      one : (a b : ToldArgument) → told_argument located ≡ Some a → told_argument located ≡ Some b → a ≡ b
+      one a b e f = cc
 
-pub types_found : (entries : List ArgumentTypes) (i : ℕ) (entry : ArgumentTypes) (word : Bytes) (number : ℕ) → i < length entries → entry ≡ get_or entries i entry → has_number number (take i entries) ≡ false → entry.number ≡ number
-    → unwrap_or (value_in entry.types word) [] ≡ types_at entries word number
-types_found [] i entry word number lt is none same = absurd (omega (arith, lt))
-types_found (e ∷ entries) zero entry word number lt is none same =
-    ap (λ (x : ArgumentTypes). unwrap_or (value_in x.types word) []) is
-    ∙ sym (ap (λ b. if b then unwrap_or (value_in e.types word) [] else types_at entries word number) (ap (λ n. nat_eq n number) (sym (ap (λ (x : ArgumentTypes). x.number) is) ∙ same) ∙ same_number number))
-types_found (e ∷ entries) (suc i) entry word number lt is none same =
-    let two = either_false (nat_eq e.number number) (has_number number (take i entries)) none in
-    types_found entries i entry word number (omega (arith, lt)) is two.1 same ∙ sym (ap (λ b. if b then unwrap_or (value_in e.types word) [] else types_at entries word number) two.0)
+  pub number_added : (own_old own_new : NumberedTypes S) (old new : ArgumentTypes T) (located : Located) (told : ToldArgument) (table : HashMap Key (List TypeTold) S) (types : Inherited (List TypeTold)) (b : Bool) → told_argument located ≡ Some told
+      → b ≡ is_some (get nat_eq old told.number) → b ≡ false → ((word : Bytes) → find table word ≡ types_for own_old told.number word) → ((other : ℕ) (word : Bytes) → nat_eq other told.number ≡ false → types_for own_new other word ≡ types_for own_old other word)
+      → ((word : Bytes) → find types.own word ≡ find table word) → Inherits (links forms) types → get nat_eq new told.number ≡ Some types → ((other : ℕ) → nat_eq told.number other ≡ false → get nat_eq new other ≡ get nat_eq old other)
+      → AddsNumber forms own_old own_new old new located
+  number_added own_old own_new old new located told table types b is found missing taken others own inherits here there = record {
+    right = λ left right number t e. is_right left right number t e (nat_eq told.number number) refl;
+    left = λ left number word none. still left number word none (nat_eq told.number number) refl;
+    kept = λ number h. kept number h (nat_eq told.number number) refl;
+    here = λ other e. let same : told ≡ other = one told other is e in ap (λ (t : ToldArgument). is_some (get nat_eq new t.number)) (sym same) ∙ ap is_some here;
+  }
+    where
+      one : (a b : ToldArgument) → told_argument located ≡ Some a → told_argument located ≡ Some b → a ≡ b
+      one a b e f = cc
 
-none_at : (entries : List ArgumentTypes) (word : Bytes) (number : ℕ) → has_number number entries ≡ false → [] ≡ types_at entries word number
-none_at [] word number h = refl
-none_at (e ∷ entries) word number h =
-    let two = either_false (nat_eq e.number number) (has_number number entries) h in
-    none_at entries word number two.1 ∙ sym (ap (λ b. if b then unwrap_or (value_in e.types word) [] else types_at entries word number) two.0)
+      table_is : AreLeft forms own_old old → IsTable forms told.number types
+      table_is left = ((λ word. own word ∙ taken word ∙ left told.number word (sym found ∙ missing)), inherits)
 
-pub types_missing : (entries : List ArgumentTypes) (i : ℕ) (word : Bytes) (number : ℕ) → length entries ≤ i → has_number number (take i entries) ≡ false → [] ≡ types_at entries word number
-types_missing entries i word number end h = none_at entries word number (ap (has_number number) (sym (take_all i entries end)) ∙ h)
+      is_right : AreLeft forms own_old old → AreRight forms old → (number : ℕ) (t : Inherited (List TypeTold)) → get nat_eq new number ≡ Some t → (d : Bool) → nat_eq told.number number ≡ d → IsTable forms number t
+      is_right left right number t e true same =
+          let n : told.number ≡ number = equal told.number number same in
+          let t_is : types ≡ t = only t (ap (get nat_eq new) n ∙ e) in
+          subst (λ (k : ℕ). IsTable forms k t) n (subst (IsTable forms told.number) t_is (table_is left))
+        where
+          only : (t : Inherited (List TypeTold)) → get nat_eq new told.number ≡ Some t → types ≡ t
+          only t f = cc
+      is_right left right number t e false other = right number t (sym (there number other) ∙ e)
 
-pub tables_more : (forms : List Located) (i : ℕ) (located : Located) (old new : List ArgumentTypes) → i < length forms → located ≡ get_or forms i located → AreTables forms (take i forms) old → AddsNumber forms old new located
-    → AreTables forms (take (i + 1) forms) new
-tables_more forms i located old new lt is tables adds = record {
-  right = adds.right tables.right;
-  all =
-      each_take_more (IsThere new) forms i located lt (each_map (IsThere old) (IsThere new) (λ l h told e. adds.kept told.number (h told e)) (take i forms) tables.all) (subst (IsThere new) is adds.here);
-}
+      still : AreLeft forms own_old old → (number : ℕ) (word : Bytes) → is_some (get nat_eq new number) ≡ false → (d : Bool) → nat_eq told.number number ≡ d → types_for own_new number word ≡ as_found (filter_map (type_at number word) forms)
+      still left number word none true same =
+          let n : told.number ≡ number = equal told.number number same in
+          let some : is_some (get nat_eq new number) ≡ true = ap (λ (k : ℕ). is_some (get nat_eq new k)) (sym n) ∙ ap is_some here in absurd (cc)
+      still left number word none false other = others number word (flip told.number number other) ∙ left number word (ap is_some (sym (there number other)) ∙ none)
+
+      kept : (number : ℕ) → is_some (get nat_eq old number) ≡ true → (d : Bool) → nat_eq told.number number ≡ d → is_some (get nat_eq new number) ≡ true
+      kept number h true same = let n : told.number ≡ number = equal told.number number same in ap (λ (k : ℕ). is_some (get nat_eq new k)) (sym n) ∙ ap is_some here
+      kept number h false other = ap is_some (there number other) ∙ h
+
+-- the tables so far
+abbrev pub AreSoFar : {S T : Type 0} → List Located → List Located → NumberedTypes S → ArgumentTypes T → Type 0
+AreSoFar forms gone own tables = AreLeft forms own tables × AreTables forms gone tables
+
+pub tables_more : {S T : Type 0} (forms : List Located) (i : ℕ) (located : Located) (own_old own_new : NumberedTypes S) (old new : ArgumentTypes T) → i < length forms → located ≡ get_or forms i located → AreSoFar forms (take i forms) own_old old
+    → AddsNumber forms own_old own_new old new located → AreSoFar forms (take (i + 1) forms) own_new new
+tables_more forms i located own_old own_new old new lt is so_far adds = (
+  adds.left so_far.0,
+  record {
+    right = adds.right so_far.0 so_far.1.right;
+    all =
+        each_take_more (IsThere new) forms i located lt (each_map (IsThere old) (IsThere new) (λ l h told e. adds.kept told.number (h told e)) (take i forms) so_far.1.all) (subst (IsThere new) is adds.here);
+  },
+)
 
 none_told : (forms : List Located) (word : Bytes) (number : ℕ) → Each (λ (located : Located). (told : ToldArgument) → told_argument located ≡ Some told → nat_eq told.number number ≡ false) forms → own_types forms word number ≡ []
 none_told [] word number h = refl
@@ -68,31 +102,19 @@ none_told (located ∷ forms) word number h = go (told_argument located) refl (n
         type_of : ToldArgument → Option TypeTold
         type_of told = type_told told.class told.place (tells_subclass (codes "domain") (codes "domainSubclass") told.head)
 
-equal : (a b : ℕ) → nat_eq a b ≡ true → a ≡ b
-equal a b h = grind (arith, nat_tests)
-
-pub types_by : (forms : List Located) (entries : List ArgumentTypes) → AreTables forms forms entries → (word : Bytes) (number : ℕ) → AreTypes forms word number (types_at entries word number)
-types_by forms entries tables word number = go (has_number number entries) refl
+pub types_by : {S : Type 0} (forms : List Located) (tables : ArgumentTypes S) → AreTables forms forms tables → (word : Bytes) (number : ℕ) → AreTypes forms word number (types_of (get nat_eq tables number) word)
+types_by forms tables are word number = go (get nat_eq tables number) refl
   where
-    right : (es : List ArgumentTypes) → Each (IsTable forms) es → has_number number es ≡ true → AreTypes forms word number (types_at es word number)
-    right [] each h = absurd (cc)
-    right (e ∷ es) each h = case (nat_eq e.number number) refl h (right es each.1)
+    go : (o : Option (Inherited (List TypeTold))) → get nat_eq tables number ≡ o → AreTypes forms word number (types_of o word)
+    go (Some table) e = let right = are.right number table e in are_types forms number table right.0 right.1 word
+    go None e = inr (none word, inr (record { none = λ other has chain. has (none other); is = refl }))
       where
-        case : (b : Bool) → nat_eq e.number number ≡ b → (b || has_number number es) ≡ true → (has_number number es ≡ true → AreTypes forms word number (types_at es word number))
-            → AreTypes forms word number (if b then unwrap_or (value_in e.types word) [] else types_at es word number)
-        case true is h more = subst (λ n. AreTypes forms word n (unwrap_or (value_in e.types word) [])) (equal e.number number is) (are_types forms e.number e.types each.0.0 each.0.1 word)
-        case false is h more = more h
-
-    go : (b : Bool) → has_number number entries ≡ b → AreTypes forms word number (types_at entries word number)
-    go true h = right entries tables.right h
-    go false h = subst (AreTypes forms word number) (none_at entries word number h) (inr (none word, inr (record { none = λ other has chain. has (none other); is = refl })))
-      where
-        apart : (located : Located) → IsThere entries located → (told : ToldArgument) → told_argument located ≡ Some told → nat_eq told.number number ≡ false
-        apart located there told e = not_so (nat_eq told.number number) (λ k. let no_way : true ≡ false = sym (there told e) ∙ ap (λ n. has_number n entries) (equal told.number number k) ∙ h in absurd (cc))
+        apart : (located : Located) → IsThere tables located → (told : ToldArgument) → told_argument located ≡ Some told → nat_eq told.number number ≡ false
+        apart located there told is = not_so (nat_eq told.number number) (λ k. let no_way : true ≡ false = sym (there told is) ∙ ap (λ n. is_some (get nat_eq tables n)) (equal told.number number k) ∙ ap is_some e in absurd (cc))
           where
             not_so : (b : Bool) → (b ≡ true → ⊥) → b ≡ false
             not_so true f = absurd (f refl)
             not_so false f = refl
 
         none : (w : Bytes) → own_types forms w number ≡ []
-        none w = none_told forms w number (each_map (IsThere entries) (λ (located : Located). (told : ToldArgument) → told_argument located ≡ Some told → nat_eq told.number number ≡ false) apart forms tables.all)
+        none w = none_told forms w number (each_map (IsThere tables) (λ (located : Located). (told : ToldArgument) → told_argument located ≡ Some told → nat_eq told.number number ≡ false) apart forms are.all)

@@ -23,10 +23,10 @@ use Rattle.signatures.specs.Arities.{ClassArity, gives, built_in, valence_in, to
 use Rattle.signatures.specs.declared.below.Below.{Below}
 use Rattle.signatures.specs.Below.{is_arity_class, may_lead, IsOpen, word_by_valence, arity_word}
 use Rattle.signatures.specs.Marks.{has}
-use Rattle.signatures.specs.Layers.{Among}
+use Rattle.signatures.specs.Layers.{Among, near_of}
 use Rattle.signatures.specs.Nearest.{IsNearest, NoneReached}
 use Rattle.signatures.specs.Tables.{arity_by}
-use Rattle.signatures.proofs.LayerLaws.{among_here, among_later, among_left, among_right, each_among}
+use Rattle.signatures.proofs.WordLaws.{among_here, among_later, among_left, among_right, each_among}
 use Rattle.signatures.proofs.SubjectLaws.{instance_among, reached_among}
 use Rattle.signatures.specs.Inherited.{first_found, find_near, value_in, Inherits}
 use Rattle.signatures.specs.OwnArities.{valence_of, AddsValence, AreValences, NeedsNone, AreOwn, AreOwnArities}
@@ -235,9 +235,9 @@ is_arity forms table own inherits word = by_word (built_in word) refl
         (record { near = near; nearest = nearest_as (links forms) (Has table.own) (HasOwnArity forms) word near n has_own (own_has near); own = own.right near n.has.0 n.has.1 }))
     inherited None n = inr (record { none = λ other has chain. n other (has_own other chain has) chain; unstated = refl })
 
-    by_own : None ≡ built_in word → (o : Option Arity) → find table.own word ≡ o → IsArity forms word (unwrap_or (first_found o (find_near table.own (find table.nearest word))) Unstated)
+    by_own : None ≡ built_in word → (o : Option Arity) → find table.own word ≡ o → IsArity forms word (unwrap_or (first_found o (find_near table.own (near_of (find table.nearest word)))) Unstated)
     by_own no_word (Some arity) e = inl (own.right word arity e)
-    by_own no_word None e = inr (own.others word (sym no_word) e, inherited (find table.nearest word) (inherits word e))
+    by_own no_word None e = inr (own.others word (sym no_word) e, inherited (near_of (find table.nearest word)) (inherits word e))
 
     by_word : (o : Option Arity) → built_in word ≡ o → IsArity forms word (unwrap_or (first_found o (value_in table word)) Unstated)
     by_word (Some arity) e = inl (or_else_some (built_in word) (OrElse (told_valence forms word) (IsByClass (links forms) word arity_classes)) arity (sym e))

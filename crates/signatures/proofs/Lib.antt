@@ -1,10 +1,17 @@
+pub mod WordLaws
+pub mod LowerLaws
 pub mod LayerLaws
+pub mod KeyLaws
+pub mod PassLaws
+pub mod NearestLaws
 pub mod SubjectLaws
 pub mod ArityLaws
 pub mod TableLaws
 pub mod NameLaws
+pub mod CandidateLaws
 pub mod MarkLaws
 pub mod ArgumentLaws
 pub mod TypeLaws
 pub mod WordTableLaws
 pub mod FormLaws
+pub mod WordHeads

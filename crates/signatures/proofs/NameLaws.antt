@@ -1,5 +1,5 @@
 -- Relation names by the marks of words.
-use Rattle.std.proofs.Common.{◌≡◌, ◌≢◌, ℕ, suc, zero, ◌+◌, ◌<◌, ◌≤◌, ◌⊎◌, ◌||◌, ◌&&◌, List, [], ◌∷◌, ◌++◌, length, map, get_or, take, Bool, true, false, not, cond, refl, sym, ap, subst, ◌∙◌, arith, inl, inr}
+use Rattle.std.proofs.Common.{if◌then◌else◌, ◌≡◌, ◌≢◌, ℕ, suc, zero, ◌+◌, ◌<◌, ◌≤◌, ◌⊎◌, ◌||◌, ◌&&◌, List, [], ◌∷◌, ◌++◌, length, map, get_or, take, Bool, true, false, not, cond, refl, sym, ap, subst, ◌∙◌, arith, inl, inr}
 use Rattle.std.specs.Prelude.{Option, Some, None, Contains, is_some}
 use Rattle.std.specs.BTreeMap.{insert_entry}
 use Rattle.std.specs.Cmp.Lexicographic.{slice_cmp, nat_list_cmp_total}
@@ -25,11 +25,11 @@ use Rattle.taxonomy.specs.Told.{Link, links}
 use Rattle.signatures.specs.declared.inherited.Inherited.{Inherited}
 use Rattle.signatures.specs.declared.told.Arity.{Arity}
 use Rattle.signatures.specs.declared.told.Arity.TheVariants.{Exactly, Any, Unstated}
-use Rattle.signatures.specs.Arities.{shown_heads, IsOwnArity, HasOwnArity, IsInheritedArity, IsUnstated, IsArity}
+use Rattle.signatures.specs.Arities.{shown_heads, built_in, IsOwnArity, HasOwnArity, IsInheritedArity, IsUnstated, IsArity}
 use Rattle.signatures.specs.Layers.{Among}
 use Rattle.signatures.specs.Marks.{Marks, OrderedMarks, has, has_ordered, is_word, AreMarked, key_words, is_stated}
 use Rattle.signatures.specs.declared.names.Found.{Found}
-use Rattle.signatures.specs.Names.{is_name, IsPaired, AddsNames, AreNames, occurs_in}
+use Rattle.signatures.specs.Names.{AreCandidates, may_be_name, is_name, HasNames, AddsNames, AreNames, occurs_in}
 use Rattle.signatures.specs.Nearest.{IsBefore, IsNearest}
 use Rattle.signatures.specs.Relations.{is_shown, is_snapshot_word, heads_a_list, HasStatedArity, IsRelationName, AreAscending, AreRelationNames}
 use Rattle.signatures.specs.Tables.{arity_by}
@@ -177,13 +177,20 @@ any_append test (y ∷ xs) x = ap (λ b. test y || b) (any_append test xs x) ∙
 any_more : {X : Type 0} (test : X → Bool) (xs : List X) (i : ℕ) (x : X) → i < length xs → x ≡ get_or xs i x → list_any test (take (i + 1) xs) ≡ (list_any test (take i xs) || test x)
 any_more test xs i x lt is = ap (list_any test) (take_more xs i x lt) ∙ any_append test (take i xs) (get_or xs i x) ∙ ap (λ y. list_any test (take i xs) || test y) (sym is)
 
+seen_now : {S : Type 0} (old new : Marks S) (word other : Bytes) → IsSet old new word tt → has new other ≡ true → (bytes_eq other word ≡ true) ⊎ (has old other ≡ true)
+seen_now old new word other set h = go (bytes_eq other word) refl (sym (ap is_some (set other)) ∙ h)
+  where
+    go : (b : Bool) → bytes_eq other word ≡ b → is_some (if b then Some tt else find old other) ≡ true → (bytes_eq other word ≡ true) ⊎ (has old other ≡ true)
+    go true e k = inl e
+    go false e k = inr k
+
 module _ {S : Type 0} (heads : Marks S) (arities : Inherited Arity) where
   abbrev name : Bytes → Bool
   name word = is_name heads arities word
 
-  seen_before : (a n t : Bool) → (t ≡ true → a ≡ true) → a ≡ (a || (n && t))
+  seen_before : (a n t : Bool) → (t ≡ true → n ≡ true → a ≡ true) → a ≡ (a || (n && t))
   seen_before true n t h = refl
-  seen_before false true true h = h refl
+  seen_before false true true h = h refl refl
   seen_before false true false h = refl
   seen_before false false t h = refl
 
@@ -200,20 +207,55 @@ module _ {S : Type 0} (heads : Marks S) (arities : Inherited Arity) where
   is_new false false false h = refl
 
   pub name_seen : (found : Found) (word : Bytes) (b : Bool) → b ≡ has found.seen word → b ≡ true → AddsNames heads arities (is_word word) found found
-  name_seen found word b is known = λ paired. (
-    paired,
-    λ other. seen_before (has_ordered found.ordered other) (name other) (bytes_eq other word) (λ e. ap (has_ordered found.ordered) ((bytes_eq-Decides other word).0 e) ∙ sym (paired word) ∙ sym is ∙ known),
+  name_seen found word b is known = λ names. (
+    names,
+    λ other. seen_before (has_ordered found.ordered other) (name other) (bytes_eq other word) (λ e n. names other (ap (has found.seen) ((bytes_eq-Decides other word).0 e) ∙ sym is ∙ known) n),
   )
 
-  pub name_not : (found : Found) (word : Bytes) (b : Bool) → b ≡ name word → b ≡ false → AddsNames heads arities (is_word word) found found
-  name_not found word b is none = λ paired. (paired, λ other. no_name (has_ordered found.ordered other) (name other) (bytes_eq other word) (λ e. ap name ((bytes_eq-Decides other word).0 e) ∙ sym is ∙ none))
+  pub name_never : (candidates : Marks S) (found : Found) (word : Bytes) (b : Bool) → AreCandidates heads arities candidates → b ≡ may_be_name candidates word → b ≡ false → AddsNames heads arities (is_word word) found found
+  name_never candidates found word b all is none = λ names. (names, λ other. no_name (has_ordered found.ordered other) (name other) (bytes_eq other word) (λ e. ap name ((bytes_eq-Decides other word).0 e) ∙ not_named))
+    where
+      not_either : (c d : Bool) → (c || d) ≡ false → (c ≡ false) × (d ≡ false)
+      not_either true d h = absurd (cc)
+      not_either false d h = (refl, h)
+
+      two : (has candidates word ≡ false) × (is_some (built_in word) ≡ false)
+      two = not_either (has candidates word) (is_some (built_in word)) (sym is ∙ none)
+
+      no_arity : (o : Option Arity) → is_some o ≡ false → o ≡ None
+      no_arity (Some arity) h = absurd (cc)
+      no_arity None h = refl
+
+      not_named : name word ≡ false
+      not_named = go (name word) refl
+        where
+          go : (n : Bool) → name word ≡ n → n ≡ false
+          go true e = let there : has candidates word ≡ true = all word (no_arity (built_in word) two.1) e in let gone : has candidates word ≡ false = two.0 in absurd (cc)
+          go false e = refl
+
+  pub name_not : (found new : Found) (word : Bytes) (b : Bool) → b ≡ name word → b ≡ false → IsSet found.seen new.seen word tt → new.ordered ≡ found.ordered → AddsNames heads arities (is_word word) found new
+  name_not found new word b is none set same = λ names. (
+    (λ other h n. go names other n (seen_now found.seen new.seen word other set h)),
+    λ other. ap (λ o. has_ordered o other) same ∙ no_name (has_ordered found.ordered other) (name other) (bytes_eq other word) (λ e. not_name other e),
+  )
+    where
+      not_name : (other : Bytes) → bytes_eq other word ≡ true → name other ≡ false
+      not_name other e = ap name ((bytes_eq-Decides other word).0 e) ∙ sym is ∙ none
+
+      go : HasNames heads arities found → (other : Bytes) → name other ≡ true → ((bytes_eq other word ≡ true) ⊎ (has found.seen other ≡ true)) → has_ordered new.ordered other ≡ true
+      go names other n (inl e) = let no_way : name other ≡ false = not_name other e in absurd (cc)
+      go names other n (inr k) = ap (λ o. has_ordered o other) same ∙ names other k n
 
   pub name_new : (old new : Found) (word : Bytes) (b : Bool) → b ≡ name word → b ≡ true → IsSet old.seen new.seen word tt → ((other : Bytes) → has_ordered new.ordered other ≡ (has_ordered old.ordered other || bytes_eq other word))
       → AddsNames heads arities (is_word word) old new
-  name_new old new word b is so set ordered = λ paired. (
-    (λ other. ap is_some (set other) ∙ some_or (bytes_eq other word) tt (find old.seen other) ∙ ap (λ c. c || bytes_eq other word) (paired other) ∙ sym (ordered other)),
+  name_new old new word b is so set ordered = λ names. (
+    (λ other h n. ordered other ∙ go names other n (seen_now old.seen new.seen word other set h)),
     λ other. ordered other ∙ is_new (has_ordered old.ordered other) (name other) (bytes_eq other word) (λ e. ap name ((bytes_eq-Decides other word).0 e) ∙ sym is ∙ so),
   )
+    where
+      go : HasNames heads arities old → (other : Bytes) → name other ≡ true → ((bytes_eq other word ≡ true) ⊎ (has old.seen other ≡ true)) → (has_ordered old.ordered other || bytes_eq other word) ≡ true
+      go names other n (inl e) = ap (λ d. has_ordered old.ordered other || d) e ∙ or_true (has_ordered old.ordered other)
+      go names other n (inr k) = ap (λ d. d || bytes_eq other word) (names other k n)
 
   joined : (a n t u : Bool) → ((a || (n && t)) || (n && u)) ≡ (a || (n && (t || u)))
   joined true n t u = refl
@@ -247,8 +289,30 @@ module _ {S : Type 0} (heads : Marks S) (arities : Inherited Arity) where
   or_and true t u = refl
   or_and false t u = refl
 
-  pub form_names : (mid new : Found) (forms : List Located) (i : ℕ) (located : Located) (b : Bool) → i < length forms → located ≡ get_or forms i located → b ≡ is_shown located.form → b ≡ false → IsPaired mid × AreNames heads arities (is_snapshot_word (take i forms)) mid.ordered
-      → AddsNames heads arities (occurs_in located.form) mid new → IsPaired new × AreNames heads arities (is_snapshot_word (take (i + 1) forms)) new.ordered
+  pub names_begun : (found : Found) → found.seen.entries ≡ [] → found.ordered.entries ≡ [] → HasNames heads arities found × AreNames heads arities (is_snapshot_word []) found.ordered
+  names_begun found nothing none = ((λ word h n. absurd (unseen word h)), λ word. empty word ∙ sym (never (name word)))
+    where
+      unseen : (word : Bytes) → has found.seen word ≡ true → ⊥
+      unseen word h = let e : has found.seen word ≡ false = ap (λ (es : List (Key × Unit {0})). is_some (lookup (λ (key : Key). bytes_eq word key.items) es)) nothing in absurd (cc)
+
+      empty : (word : Bytes) → has_ordered found.ordered word ≡ false
+      empty word = ap (λ (es : List (Key × Unit {0})). is_some (lookup (λ (key : Key). is_eq (slice_cmp nat_cmp word key.items)) es)) none
+
+      never : (n : Bool) → (n && false) ≡ false
+      never true = refl
+      never false = refl
+
+  pub form_shown : (found : Found) (forms : List Located) (i : ℕ) (located : Located) (b : Bool) → i < length forms → located ≡ get_or forms i located → b ≡ is_shown located.form → b ≡ true → HasNames heads arities found × AreNames heads arities (is_snapshot_word (take i forms)) found.ordered
+      → HasNames heads arities found × AreNames heads arities (is_snapshot_word (take (i + 1) forms)) found.ordered
+  form_shown found forms i located b lt is shown so one = (
+    one.0,
+    λ word. one.1 word
+        ∙ ap (λ t. name word && t) (sym (any_more (λ (l : Located). not (is_shown l.form) && has_word word l.form) forms i located lt is
+        ∙ ap (λ d. is_snapshot_word (take i forms) word || (not d && has_word word located.form)) (sym shown ∙ so) ∙ or_false (is_snapshot_word (take i forms) word))),
+  )
+
+  pub form_names : (mid new : Found) (forms : List Located) (i : ℕ) (located : Located) (b : Bool) → i < length forms → located ≡ get_or forms i located → b ≡ is_shown located.form → b ≡ false → HasNames heads arities mid × AreNames heads arities (is_snapshot_word (take i forms)) mid.ordered
+      → AddsNames heads arities (occurs_in located.form) mid new → HasNames heads arities new × AreNames heads arities (is_snapshot_word (take (i + 1) forms)) new.ordered
   form_names mid new forms i located b lt is shown not_so one two = (
     (two one.0).0,
     λ word. (two one.0).1 word ∙ ap (λ a. a || (name word && has_word word located.form)) (one.1 word) ∙ or_and (name word) (is_snapshot_word (take i forms) word) (has_word word located.form)

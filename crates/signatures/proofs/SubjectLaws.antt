@@ -1,6 +1,6 @@
 -- The words of which forms tell something.
 use Rattle.std.proofs.Common.{◌≡◌, ℕ, suc, zero, ◌+◌, ◌<◌, List, [], ◌∷◌, ◌++◌, length, get_or, take, true, refl, sym, ap, subst, ◌∙◌, arith, if◌then◌else◌}
-use Rattle.std.specs.Prelude.{Option, Some, None, Contains, MatchOption}
+use Rattle.std.specs.Prelude.{Option, Some, None, Contains}
 use Rattle.std.specs.HashMap.{HashMap}
 use Rattle.std.specs.List.{filter_map, cons_option}
 use Rattle.std.proofs.lemmas.List.{take_more}
@@ -12,15 +12,11 @@ use Rattle.taxonomy.specs.declared.told.ChainKind.{ChainKind}
 use Rattle.taxonomy.specs.declared.told.ChainKind.TheVariants as kinds
 use Rattle.taxonomy.specs.Chains.{Chain, IsChain, Joins, OfKind}
 use Rattle.taxonomy.specs.Told.{Link, links, told_link}
-use Rattle.signatures.specs.declared.inherited.Inherited.{Inherited}
 use Rattle.signatures.specs.declared.below.Below.{Below}
 use Rattle.signatures.specs.Below.{may_lead, IsOpen, word_by_kind, word_by_link, arity_word}
-use Rattle.signatures.specs.Forms.{low_of_relation, relation_of, relation_word}
-use Rattle.signatures.specs.Inherited.{NeedsNone, AreNoted, Inherits}
-use Rattle.signatures.specs.Layers.{Among, Walk}
-use Rattle.signatures.specs.Nearest.{IsNearest, NoneReached}
-use Rattle.signatures.specs.WordTables.{Key, find, Has, IsTableOf, IsGoneThrough}
-use Rattle.signatures.proofs.LayerLaws.{among_here, among_later, each_among, walk_of}
+use Rattle.signatures.specs.Layers.{Among}
+use Rattle.signatures.specs.WordTables.{Key, IsTableOf, IsGoneThrough}
+use Rattle.signatures.proofs.WordLaws.{among_here, among_later}
 use Rattle.signatures.proofs.WordTableLaws.{table_of_more}
 
 -- ---- a form more
@@ -80,56 +76,19 @@ told_among f word link gives (located ∷ forms) h = go (told_link located) refl
     go (Some first) told (zero, lt, is) more = here (told ∙ ap (λ (l : Link). Some l) is)
     go (Some first) told (suc n, lt, is) more = later (more (n, omega (arith, lt), is))
 
-record FirstLink (links : List Link) (kind : ChainKind) (word : Bytes) : Type 0 where
-  link : Link
-  told : Contains links link
-  is : link.kind ≡ kind
-  low : link.low ≡ word
-
-first_link : (links : List Link) (kind : ChainKind) (low high : Bytes) → Chain links kind low high → FirstLink links kind low
-first_link links kind low high c = go c.chain c.told c.is c.joins
-  where
-    go : (chain : List Link) → Each (λ (link : Link). Contains links link) chain → IsChain kind chain → Joins chain low high → FirstLink links kind low
-    go [] told is joins = absurd is
-    go (link ∷ chain) told is joins = record { link = link; told = told.0; is = is.0; low = joins.0 }
-
--- a word from which a relation chain leads is the lower one of a `subrelation` form
-pub chain_among : (forms : List Located) (low high : Bytes) → Chain (links forms) kinds.Relation low high → Among (filter_map relation_word forms) low
-chain_among forms low high c =
-    let first = first_link (links forms) kinds.Relation low high c in
-    told_among relation_word low first.link (λ located e. ap relation_of e ∙ ap (λ (k : ChainKind). low_of_relation k first.link.low) first.is ∙ ap (λ (w : Bytes). Some w) first.low) forms first.told
-
--- ---- inherited values
-
-pub inherits_by : {V : Type 0} (forms : List Located) (told : List Link) (table : Inherited V) → told ≡ links forms → AreNoted told table.own (filter_map relation_word forms) table.nearest → Inherits (links forms) table
-inherits_by {V = V} forms told table same noted = λ word none. go word none (find table.nearest word) refl
-  where
-    notes : AreNoted (links forms) table.own (filter_map relation_word forms) table.nearest
-    notes = subst (λ (ls : List Link). AreNoted ls table.own (filter_map relation_word forms) table.nearest) same noted
-
-    go : (word : Bytes) → find table.own word ≡ None → (o : Option Bytes) → find table.nearest word ≡ o → MatchOption o (NoneReached (links forms) (Has table.own) word) (IsNearest (links forms) (Has table.own) word)
-    go word none (Some near) e = notes.right word near e
-    go word none None e = λ other has chain.
-        each_among (λ w. find table.nearest w ≡ None → NeedsNone (links forms) table.own w) (filter_map relation_word forms) word notes.all (chain_among forms word other chain) e none other has chain
-
 -- ---- words that may have an own arity
 
 -- a word to which a relation chain leads
 pub reached_among : (forms : List Located) (below : Below) (low high : Bytes) → Chain (links forms) kinds.Relation low high → Among (filter_map (arity_word below true) forms) high
-reached_among forms below low high c = go (length c.chain) (walk_of (links forms) low high c) some
+reached_among forms below low high c = go c.chain low c.told c.is c.joins
   where
-    some : length c.chain ≡ 0 → ⊥
-    some e = empty c.chain c.is e
-      where
-        empty : (chain : List Link) → IsChain kinds.Relation chain → length chain ≡ 0 → ⊥
-        empty [] is e = is
-        empty (link ∷ chain) is e = absurd (omega (arith, e))
+    here : (link : Link) → Contains (links forms) link → link.kind ≡ kinds.Relation → Among (filter_map (arity_word below true) forms) link.high
+    here link told kind = told_among (arity_word below true) link.high link (λ located e. ap (word_by_link below) e ∙ ap (λ (k : ChainKind). word_by_kind below k link.low link.high) kind) forms told
 
-    go : (n : ℕ) → Walk (links forms) low n high → (n ≡ 0 → ⊥) → Among (filter_map (arity_word below true) forms) high
-    go zero walk some = absurd (some refl)
-    go (suc n) walk some =
-        told_among (arity_word below true) high walk.link
-        (λ located e. ap (word_by_link below) e ∙ ap (λ (k : ChainKind). word_by_kind below k walk.link.low walk.link.high) walk.kind ∙ ap (λ (w : Bytes). Some w) walk.to) forms walk.told
+    go : (chain : List Link) (low : Bytes) → Each (λ (link : Link). Contains (links forms) link) chain → IsChain kinds.Relation chain → Joins chain low high → Among (filter_map (arity_word below true) forms) high
+    go [] low told is joins = absurd is
+    go (link ∷ []) low told is joins = subst (Among (filter_map (arity_word below true) forms)) joins.1 (here link told.0 is.0)
+    go (link ∷ next ∷ chain) low told is joins = go (next ∷ chain) link.high told.1 is.1 joins.1
 
 open_at : (forms : List Located) (below : Below) (link : Link) → IsOpen forms below → Contains (links forms) link → link.kind ≡ kinds.Class → may_lead below link.high ≡ true → may_lead below link.low ≡ true
 open_at [] below link open_all (n, lt, is) kind h = absurd (omega (arith, lt))

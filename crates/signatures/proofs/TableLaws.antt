@@ -19,11 +19,11 @@ use Rattle.signatures.proofs.NameLaws.{relation_names}
 use Rattle.signatures.proofs.TypeLaws.{ranges_by}
 
 pub are_signatures : {S : Type 0} (forms : List Located) (tables : Signatures) (names : OrderedMarks) (heads : Marks S) → AreOwnArities forms tables.arities.own → Inherits (links forms) tables.arities
-    → AreTables forms forms tables.types.items → AreToldTypes range_at forms tables.ranges → AreMarked (heads_a_list forms) heads → AreNames heads tables.arities (is_snapshot_word forms) names → AreAscending (key_words names)
+    → AreTables forms forms tables.types → AreToldTypes range_at forms tables.ranges → AreMarked (heads_a_list forms) heads → AreNames heads tables.arities (is_snapshot_word forms) names → AreAscending (key_words names)
     → tables.relations.items ≡ key_words names → AreSignatures forms tables
 are_signatures forms tables names heads is_own inherits types told in_heads in_names rising is = record {
   arities = arity;
-  types = types_by forms tables.types.items types;
+  types = types_by forms tables.types types;
   are_ranges = ranges_by forms tables.ranges told;
   relations = relation_names forms names heads tables.arities tables.relations.items in_heads in_names arity rising is;
 }

@@ -1,7 +1,8 @@
 -- Types told of words, and those that are inherited.
-use Rattle.std.proofs.Common.{◌≡◌, ◌≢◌, ℕ, ◌+◌, ◌<◌, ◌⊎◌, List, [], ◌∷◌, ◌++◌, length, get_or, take, Bool, true, false, refl, sym, ap, subst, ◌∙◌, inl, inr, if◌then◌else◌}
-use Rattle.std.specs.Prelude.{Option, Some, None, MatchOption, unwrap_or}
-use Rattle.std.specs.HashMap.{HashMap, UpdatesBy}
+use Rattle.std.proofs.Common.{arith, ◌&&◌, ◌≡◌, ◌≢◌, ℕ, ◌+◌, ◌<◌, ◌⊎◌, List, [], ◌∷◌, ◌++◌, length, get_or, take, Bool, true, false, refl, sym, ap, subst, ◌∙◌, inl, inr, if◌then◌else◌}
+use Rattle.std.specs.Prelude.{Option, Some, None, MatchOption, unwrap_or, nat_eq, codes}
+use Rattle.std.specs.HashMap.{HashMap, get}
+use Rattle.std.proofs.lemmas.Bool.Decides.{nat_tests}
 use Rattle.std.specs.List.{filter_map, cons_option}
 use Rattle.std.specs.Str.{bytes_eq}
 use Rattle.std.proofs.lemmas.Slice.Eq.{bytes_eq-Decides}
@@ -17,14 +18,11 @@ use Rattle.taxonomy.specs.Told.{links, ToldArgument, told_argument, ToldPair, to
 use Rattle.signatures.specs.declared.inherited.Inherited.{Inherited}
 use Rattle.signatures.specs.Inherited.{first_found, find_near, value_in, Inherits}
 use Rattle.signatures.specs.Nearest.{IsNearest, NoneReached}
-use Rattle.signatures.specs.Types.{type_in, own_types, HasTypes, AreInherited, AreNone, AreTypes, range_in, ranges}
-use Rattle.signatures.specs.TypeTables.{as_found, found_for, type_by, type_at, range_by, range_at, IsTaken, AddsFound, AreToldTypes}
+use Rattle.signatures.specs.Layers.{near_of}
+use Rattle.signatures.specs.Types.{type_told, tells_subclass, type_in, own_types, HasTypes, AreInherited, AreNone, AreTypes, range_in, ranges}
+use Rattle.signatures.specs.TypeTables.{as_found, found_for, type_by, type_at, range_by, range_at, AddsFound, AreToldTypes, NumberedTypes, find_types, types_for, AddsArgument, AreArguments}
 use Rattle.signatures.proofs.ArityLaws.{nearest_as}
-use Rattle.signatures.proofs.WordTableLaws.{updated_by}
-use Rattle.signatures.specs.WordTables.{Key, find, Has, IsSet}
-
-pub taken_by : {S : Type 0} (old new : HashMap Key (List TypeTold) S) (word : Bytes) → UpdatesBy (λ (x y : Key). bytes_eq x.items y.items) (λ (key : Key). bytes_eq word key.items) old new None → IsTaken old new word
-taken_by old new word h = λ other apart. updated_by old new word None h other ∙ ap (λ b. if b then None else find old other) apart
+use Rattle.signatures.specs.WordTables.{Key, find, Has, IsPushed}
 
 append_none : (xs : List TypeTold) → xs ++ [] ≡ xs
 append_none [] = refl
@@ -41,23 +39,22 @@ found_more (y ∷ xs) x = refl
 pub adds_none : {S : Type 0} → (table : HashMap Key (List TypeTold) S) → AddsFound table table None
 adds_none table = λ word types e. e ∙ ap as_found (sym (append_none types))
 
-pub adds_one : {S : Type 0} → (old mid new : HashMap Key (List TypeTold) S) (found : FoundType) (word : Bytes) (list longer : List TypeTold) (told : TypeTold) → word ≡ found.word.now → list ≡ unwrap_or (find old word) [] → IsTaken old mid word
-    → longer ≡ list ++ told ∷ [] → told ≡ record { subclass = found.subclass; class = found.class.now; place = found.place } → IsSet mid new word longer → AddsFound old new (Some found)
-adds_one old mid new found word list longer told same is taken more told_is set = λ other types e. set other ∙ go other types e (bytes_eq other word) refl
+pub adds_one : {S : Type 0} → (old new : HashMap Key (List TypeTold) S) (found : FoundType) (told : TypeTold) → told ≡ record { subclass = found.subclass; class = found.class.now; place = found.place } → IsPushed old new found.word.now told → AddsFound old new (Some found)
+adds_one old new found told told_is pushed = λ other types e. pushed other ∙ go other types e (bytes_eq other found.word.now) refl
   where
     one : (other : Bytes) (b : Bool) → bytes_eq found.word.now other ≡ b → found_for other (Some found) ≡ (if b then Some told else None)
     one other b h = ap (λ (d : Bool). if d then Some (record { subclass = found.subclass; class = found.class.now; place = found.place }) else None) h ∙ ap (λ (t : TypeTold). if b then Some t else None) (sym told_is)
 
-    go : (other : Bytes) (types : List TypeTold) → find old other ≡ as_found types → (b : Bool) → bytes_eq other word ≡ b → (if b then Some longer else find mid other) ≡ as_found (types ++ cons_option (found_for other (Some found)) [])
+    go : (other : Bytes) (types : List TypeTold) → find old other ≡ as_found types → (b : Bool) → bytes_eq other found.word.now ≡ b
+        → (if b then Some (unwrap_or (find old other) [] ++ told ∷ []) else find old other) ≡ as_found (types ++ cons_option (found_for other (Some found)) [])
     go other types e true h =
-        let equal : other ≡ word = (bytes_eq-Decides other word).0 h in
-        let listed : list ≡ types = is ∙ ap (λ (w : Bytes). unwrap_or (find old w) []) (sym equal) ∙ ap (λ (o : Option (List TypeTold)). unwrap_or o []) e ∙ found_list types in
-        let here : found_for other (Some found) ≡ Some told = one other true ((bytes_eq-Decides found.word.now other).1 (sym (equal ∙ same))) in
-        ap (λ (ts : List TypeTold). Some ts) (more ∙ ap (λ (ts : List TypeTold). ts ++ told ∷ []) listed) ∙ found_more types told
+        let equal : other ≡ found.word.now = (bytes_eq-Decides other found.word.now).0 h in
+        let here : found_for other (Some found) ≡ Some told = one other true ((bytes_eq-Decides found.word.now other).1 (sym equal)) in
+        ap (λ (o : Option (List TypeTold)). Some (unwrap_or o [] ++ told ∷ [])) e ∙ ap (λ (ts : List TypeTold). Some (ts ++ told ∷ [])) (found_list types) ∙ found_more types told
         ∙ ap (λ (o : Option TypeTold). as_found (types ++ cons_option o [])) (sym here)
     go other types e false h =
-        let apart : bytes_eq found.word.now other ≡ false = not_same (bytes_eq found.word.now other) (λ k. let no_way : true ≡ false = sym ((bytes_eq-Decides other word).1 (sym (same ∙ (bytes_eq-Decides found.word.now other).0 k))) ∙ h in absurd (cc)) in
-        taken other h ∙ e ∙ ap as_found (sym (append_none types)) ∙ ap (λ (o : Option TypeTold). as_found (types ++ cons_option o [])) (sym (one other false apart))
+        let apart : bytes_eq found.word.now other ≡ false = not_same (bytes_eq found.word.now other) (λ k. let no_way : true ≡ false = sym ((bytes_eq-Decides other found.word.now).1 (sym ((bytes_eq-Decides found.word.now other).0 k))) ∙ h in absurd (cc)) in
+        e ∙ ap as_found (sym (append_none types)) ∙ ap (λ (o : Option TypeTold). as_found (types ++ cons_option o [])) (sym (one other false apart))
       where
         not_same : (b : Bool) → (b ≡ true → ⊥) → b ≡ false
         not_same true no_way = absurd (no_way refl)
@@ -72,12 +69,54 @@ told_more told forms i located old new found lt is h found_is adds = λ word.
     (ap (λ (fs : List Located). as_found (filter_map (told word) fs)) (take_more forms i located lt) ∙ ap as_found (filter_map-append (told word) (take i forms) (get_or forms i located ∷ []))
     ∙ ap (λ (l : Located). as_found (filter_map (told word) (take i forms) ++ cons_option (told word l) [])) (sym is))
 
-pub adds_by : {S : Type 0} → (old mid new : HashMap Key (List TypeTold) S) (o : Option FoundType) (found : FoundType) (first second : Bytes) (list longer : List TypeTold) (told : TypeTold) → o ≡ Some found → first ≡ found.word.now → second ≡ found.word.now
-    → told.class ≡ found.class.now → list ≡ unwrap_or (find old first) [] → IsTaken old mid first → longer ≡ list ++ record { subclass = found.subclass; class = told.class; place = found.place } ∷ [] → IsSet mid new second longer → AddsFound old new o
-adds_by old mid new o found first second list longer told is one two class listed taken more set =
-    subst (AddsFound old new) (sym is)
-    (adds_one old mid new found found.word.now list longer (record { subclass = found.subclass; class = told.class; place = found.place }) refl (listed ∙ ap (λ (w : Bytes). unwrap_or (find old w) []) one)
-    (subst (IsTaken old mid) one taken) more (ap (λ (text : Bytes). record { subclass = found.subclass; class = text; place = found.place }) class) (subst (λ (w : Bytes). IsSet mid new w longer) two set))
+pub adds_by : {S : Type 0} → (old new : HashMap Key (List TypeTold) S) (o : Option FoundType) (found : FoundType) (word : Bytes) (told : TypeTold) → o ≡ Some found → word ≡ found.word.now
+    → told ≡ record { subclass = found.subclass; class = found.class.now; place = found.place } → IsPushed old new word told → AddsFound old new o
+adds_by old new o found word told is same told_is pushed = subst (AddsFound old new) (sym is) (adds_one old new found told told_is (subst (λ (w : Bytes). IsPushed old new w told) same pushed))
+
+-- ---- tables by the numbers of arguments
+
+pub equal : (a b : ℕ) → nat_eq a b ≡ true → a ≡ b
+equal a b h = grind (arith, nat_tests)
+
+pub flip : (a b : ℕ) → nat_eq a b ≡ false → nat_eq b a ≡ false
+flip a b h = grind (arith, nat_tests)
+
+module _ {S : Type 0} where
+  pub argument_none : (tables : NumberedTypes S) (located : Located) → told_argument located ≡ None → AddsArgument tables tables located
+  argument_none tables located none = λ number word types e. e ∙ ap as_found (sym (append_none types)) ∙ ap (λ (o : Option ToldArgument). as_found (types ++ cons_option (type_by word number o) [])) (sym none)
+
+  pub argument_one : (old mid new : NumberedTypes S) (table longer : HashMap Key (List TypeTold) S) (found : Option FoundType) (told : ToldArgument) (located : Located) → told_argument located ≡ Some told
+      → ((word : Bytes) → find table word ≡ types_for old told.number word) → ((other : ℕ) (word : Bytes) → nat_eq other told.number ≡ false → types_for mid other word ≡ types_for old other word)
+      → ((word : Bytes) → found_for word found ≡ type_in word told.number told) → AddsFound table longer found
+      → get nat_eq new told.number ≡ Some longer → ((other : ℕ) → nat_eq told.number other ≡ false → get nat_eq new other ≡ get nat_eq mid other) → AddsArgument old new located
+  argument_one old mid new table longer found told located is taken others found_is adds here there = λ number word types e. go number word types e (nat_eq number told.number) refl
+    where
+      told_is : (number : ℕ) (word : Bytes) → type_at number word located ≡ type_in word number told
+      told_is number word = ap (type_by word number) is
+
+      apart : (number : ℕ) (word : Bytes) → nat_eq number told.number ≡ false → type_in word number told ≡ None
+      apart number word e = ap (λ b. if bytes_eq told.word word && b then type_told told.class told.place (tells_subclass (codes "domain") (codes "domainSubclass") told.head) else None) (flip number told.number e) ∙ nothing (bytes_eq told.word word) (type_told told.class told.place (tells_subclass (codes "domain") (codes "domainSubclass") told.head))
+        where
+          nothing : (b : Bool) (t : Option TypeTold) → (if b && false then t else None) ≡ None
+          nothing true t = refl
+          nothing false t = refl
+
+      go : (number : ℕ) (word : Bytes) (types : List TypeTold) → types_for old number word ≡ as_found types → (b : Bool) → nat_eq number told.number ≡ b → types_for new number word ≡ as_found (types ++ cons_option (type_at number word located) [])
+      go number word types e true same =
+          let n : number ≡ told.number = equal number told.number same in
+          ap (λ (k : ℕ). types_for new k word) n ∙ ap (λ (o : Option (HashMap Key (List TypeTold) S)). find_types o word) here
+          ∙ adds word types (taken word ∙ ap (λ (k : ℕ). types_for old k word) (sym n) ∙ e)
+          ∙ ap (λ (o : Option TypeTold). as_found (types ++ cons_option o [])) (found_is word ∙ ap (λ (k : ℕ). type_in word k told) (sym n) ∙ sym (told_is number word))
+      go number word types e false other =
+          ap (λ (o : Option (HashMap Key (List TypeTold) S)). find_types o word) (there number (flip number told.number other)) ∙ others number word other ∙ e ∙ ap as_found (sym (append_none types))
+          ∙ ap (λ (o : Option TypeTold). as_found (types ++ cons_option o [])) (sym (told_is number word ∙ apart number word other))
+
+  pub arguments_more : (forms : List Located) (i : ℕ) (located : Located) (old new : NumberedTypes S) → i < length forms → located ≡ get_or forms i located → AreArguments (take i forms) old → AddsArgument old new located → AreArguments (take (i + 1) forms) new
+  arguments_more forms i located old new lt is h adds = λ number word.
+      adds number word (filter_map (type_at number word) (take i forms)) (h number word)
+      ∙ sym
+      (ap (λ (fs : List Located). as_found (filter_map (type_at number word) fs)) (take_more forms i located lt) ∙ ap as_found (filter_map-append (type_at number word) (take i forms) (get_or forms i located ∷ []))
+      ∙ ap (λ (l : Located). as_found (filter_map (type_at number word) (take i forms) ++ cons_option (type_at number word l) [])) (sym is))
 
 -- ---- types of the argument with one number
 
@@ -140,6 +179,6 @@ are_types forms number table own inherits word = by_own (find table.own word) re
     })
     inherited None n = inr (record { none = λ other has chain. n other (back other chain has) chain; is = refl })
 
-    by_own : (o : Option (List TypeTold)) → find table.own word ≡ o → AreTypes forms word number (unwrap_or (first_found o (find_near table.own (find table.nearest word))) [])
+    by_own : (o : Option (List TypeTold)) → find table.own word ≡ o → AreTypes forms word number (unwrap_or (first_found o (find_near table.own (near_of (find table.nearest word)))) [])
     by_own (Some types) e = inl (as_found_some (own_types forms word number) types (sym (own_is word) ∙ e))
-    by_own None e = inr (as_found_none (own_types forms word number) (sym (own_is word) ∙ e), inherited (find table.nearest word) (inherits word e))
+    by_own None e = inr (as_found_none (own_types forms word number) (sym (own_is word) ∙ e), inherited (near_of (find table.nearest word)) (inherits word e))

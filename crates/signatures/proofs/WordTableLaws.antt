@@ -1,6 +1,6 @@
 -- Tables with a value for some words, and words that are gone through.
 use Rattle.std.proofs.Common.{◌≡◌, ◌⊎◌, List, [], ◌∷◌, ◌++◌, Bool, true, false, if◌then◌else◌, refl, sym, ap, subst, ◌∙◌, inl, inr}
-use Rattle.std.specs.Prelude.{Option, Some, None, is_some}
+use Rattle.std.specs.Prelude.{Option, Some, None, is_some, unwrap_or}
 use Rattle.std.specs.Str.{bytes_eq}
 use Rattle.std.specs.HashMap.{HashMap, UpdatesBy}
 use Rattle.std.specs.Map.{lookup, KeepsOthers}
@@ -8,7 +8,7 @@ use Rattle.std.specs.Cmp.Lexicographic.{nat_list_eq_equiv}
 use Rattle.std.proofs.lemmas.Slice.Eq.{bytes_eq-Decides}
 use Rattle.sigma_base.specs.Lists.{each_append, each_map}
 use Rattle.kif_tree.specs.Terms.{Bytes}
-use Rattle.signatures.specs.WordTables.{Key, find, IsSet, IsTableOf, IsGoneThrough}
+use Rattle.signatures.specs.WordTables.{Key, find, IsSet, IsTaken, IsPushed, IsTableOf, IsGoneThrough}
 
 apart : (word other key : Bytes) → bytes_eq word other ≡ false → bytes_eq word key ≡ true → bytes_eq other key ≡ false
 apart word other key n y = nat_list_eq_equiv.symm other key ∙ sym (nat_list_eq_equiv.congr word key other y) ∙ n
@@ -26,6 +26,19 @@ module _ {V S : Type 0} where
 
   pub set_by : (old new : HashMap Key V S) (key : Key) (word : Bytes) (value : V) → key.items ≡ word → UpdatesBy (λ (x y : Key). bytes_eq x.items y.items) (λ (k : Key). bytes_eq key.items k.items) old new (Some value) → IsSet old new word value
   set_by old new key word value same h = λ other. updated_by old new key.items (Some value) h other ∙ ap (λ (w : Bytes). if bytes_eq other w then Some value else find old other) same
+
+-- ---- lists of words
+
+module _ {X S : Type 0} where
+  pub taken_by : (old new : HashMap Key (List X) S) (word : Bytes) → UpdatesBy (λ (x y : Key). bytes_eq x.items y.items) (λ (key : Key). bytes_eq word key.items) old new None → IsTaken old new word
+  taken_by old new word h = λ other apart. updated_by old new word None h other ∙ ap (λ b. if b then None else find old other) apart
+
+  pub pushed_by : (old mid new : HashMap Key (List X) S) (word : Bytes) (list longer : List X) (item : X) → list ≡ unwrap_or (find old word) [] → IsTaken old mid word → longer ≡ list ++ item ∷ [] → IsSet mid new word longer → IsPushed old new word item
+  pushed_by old mid new word list longer item is taken more set = λ other. set other ∙ go other (bytes_eq other word) refl
+    where
+      go : (other : Bytes) (b : Bool) → bytes_eq other word ≡ b → (if b then Some longer else find mid other) ≡ (if b then Some (unwrap_or (find old other) [] ++ item ∷ []) else find old other)
+      go other true e = ap (λ (xs : List X). Some xs) (more ∙ ap (λ (xs : List X). xs ++ item ∷ []) (is ∙ ap (λ (w : Bytes). unwrap_or (find old w) []) (sym ((bytes_eq-Decides other word).0 e))))
+      go other false e = taken other e
 
 -- ---- words that are gone through
 

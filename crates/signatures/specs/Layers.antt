@@ -1,79 +1,118 @@
--- The words that relation chains reach, layer by layer: the words of a layer are those to which links lead from the layer before, and to which none led earlier.
+-- Notes of nearest words, as words pass them on to the words below them, layer by layer.
 use Rattle.std.specs.Cmp.Lexicographic.{slice_cmp}
+use Rattle.std.specs.HashMap.{HashMap}
 use Rattle.std.specs.Ordering.{is_lt, nat_cmp}
-use Rattle.std.specs.Prelude.{Option, Some, None, ◌≡◌, ℕ, ◌+◌, ◌<◌, ◌⊎◌, List, [], ◌∷◌, ◌++◌, suc, zero, Bool, true, false, not, ◌&&◌, if◌then◌else◌, Contains}
+use Rattle.std.specs.Prelude.{◌≡◌, ℕ, ◌+◌, ◌<◌, ◌≤◌, ◌⊎◌, List, suc, zero, nat_lt, Option, Some, None, if◌then◌else◌, MatchOption, true}
 use Rattle.kif_tree.specs.Terms.{Bytes}
 use Rattle.kif_tree.specs.Shape.{is_among}
 use Rattle.sigma_base.specs.Lists.{Each}
-use Rattle.taxonomy.specs.declared.told.ChainKind.{ChainKind}
-use Rattle.taxonomy.specs.declared.told.ChainKind.TheVariants as kinds
-use Rattle.taxonomy.specs.declared.told.Told.{Told}
-use Rattle.taxonomy.specs.Chains.{parents}
 use Rattle.taxonomy.specs.Told.{Link}
-use Rattle.signatures.specs.Nearest.{IsBefore}
-
--- a relation link leads to the word from one for which P holds
-pub record Step (links : List Link) (P : Bytes → Type 0) (word : Bytes) : Type 0 where
-  pub link : Link
-  pub told : Contains links link
-  pub kind : link.kind ≡ kinds.Relation
-  pub from : P link.low
-  pub to : link.high ≡ word
-
--- as many relation links lead from the first word to the second
-abbrev pub Walk : List Link → Bytes → ℕ → Bytes → Type 0
-Walk links start zero word = start ≡ word
-Walk links start (suc n) word = Step links (Walk links start n) word
+use Rattle.signatures.specs.declared.nearest.Need.{Need}
+use Rattle.signatures.specs.declared.nearest.Need.TheVariants.{First, Better, Nothing}
+use Rattle.signatures.specs.declared.nearest.Note.{Note}
+use Rattle.signatures.specs.Nearest.{IsBefore, IsNearest, NoneReached}
+use Rattle.signatures.specs.WordTables.{Key, find, Has}
 
 abbrev pub Among : List Bytes → Bytes → Type 0
 Among words word = is_among words word ≡ true
 
--- layers up to a depth: no word of those before the last layer has it, and all words that are reached by as many links, or by fewer, are there
-pub record AreLayers (links : List Link) (Has : Bytes → Type 0) (start : Bytes) (done layer : List Bytes) : Type 0 where
-  pub depth : ℕ
-  pub without : Each (λ word. Has word → ⊥) done
-  pub reached : Each (Walk links start depth) layer
-  pub nearer : (n : ℕ) (word : Bytes) → n < depth → Walk links start n word → Among done word
-  pub at_depth : (word : Bytes) → Walk links start depth word → Among (done ++ layer) word
-  pub begun : Among (done ++ layer) start
-  pub closed : (link : Link) → Contains links link → link.kind ≡ kinds.Relation → Among done link.low → Among (done ++ layer) link.high
+-- the word stands below one for which P holds
+pub record Step (lows : Bytes → List Bytes) (P : Bytes → Type 0) (low : Bytes) : Type 0 where
+  pub high : Bytes
+  pub below : Among (lows high) low
+  pub from : P high
 
--- the first by bytes of the words that have it
-pub record IsFirst (Has : Bytes → Type 0) (words : List Bytes) (first : Bytes) : Type 0 where
-  pub among : Among words first
-  pub has : Has first
-  pub least : (other : Bytes) → Among words other → Has other → (first ≡ other) ⊎ IsBefore first other
+-- as many steps lead up from the first word to the second
+abbrev pub Leads : (Bytes → List Bytes) → ℕ → Bytes → Bytes → Type 0
+Leads lows zero low high = low ≡ high
+Leads lows (suc n) low high = Step lows (λ mid. Leads lows n mid high) low
 
--- whether the word stands before the other one, if there is another one
-abbrev pub is_earlier : Bytes → Option Bytes → Bool
-is_earlier word (Some other) = is_lt (slice_cmp nat_cmp word other)
-is_earlier word None = true
+abbrev pub as_note : ℕ → Bytes → Note
+as_note distance near = record { distance = distance; near = near }
 
--- ---- the next layer
+-- the note's word is nearer than the other one, or as near and not behind it by bytes
+abbrev pub IsNoFarther : Note → ℕ → Bytes → Type 0
+IsNoFarther note distance near = (note.distance < distance) ⊎ ((note.distance ≡ distance) × ((note.near ≡ near) ⊎ IsBefore note.near near))
 
-abbrev pub is_relation : ChainKind → Bool
-is_relation kinds.Class = false
-is_relation kinds.Instance = false
-is_relation kinds.Relation = true
+-- the word needs no note of a word at that distance
+abbrev pub IsSettled : {V S : Type 0} → HashMap Key V S → HashMap Key Note S → ℕ → Bytes → Bytes → Type 0
+IsSettled own notes distance near word = Has own word ⊎ ((note : Note) × (find notes word ≡ Some note) × IsNoFarther note distance near)
 
--- the words, and the parent where it is told by a relation link and new
-abbrev pub with_parent : List Bytes → List Bytes → Told → List Bytes
-with_parent seen next told = if is_relation told.kind && not (is_among (seen ++ next) told.parent) then next ++ told.parent ∷ [] else next
+abbrev pub need_of : Option Note → ℕ → Bytes → Need
+need_of (Some note) distance near = if nat_lt note.distance distance then Nothing else if is_lt (slice_cmp nat_cmp near note.near) then Better else Nothing
+need_of None distance near = First
 
-abbrev pub with_parents : List Bytes → List Bytes → List Told → List Bytes
-with_parents seen next [] = next
-with_parents seen next (told ∷ more) = with_parents seen (with_parent seen next told) more
+-- the note is of a word that has a value, to which steps lead from one that has none
+pub record IsRight {V S : Type 0} (lows : Bytes → List Bytes) (own : HashMap Key V S) (word : Bytes) (note : Note) : Type 0 where
+  pub without : Has own word → ⊥
+  pub has : Has own note.near
+  pub some : 0 < note.distance
+  pub leads : Leads lows note.distance word note.near
 
-abbrev pub with_layer : List Link → List Bytes → List Bytes → List Bytes → List Bytes
-with_layer links seen next [] = next
-with_layer links seen next (word ∷ words) = with_layer links seen (with_parents seen next (parents links word)) words
+-- notes up to a distance, of which the words at that distance are listed: those that had no note at the start
+pub record AreNotes {V S : Type 0} (lows : Bytes → List Bytes) (own : HashMap Key V S) (start notes : HashMap Key Note S) (next : List Bytes) (distance : ℕ) : Type 0 where
+  pub right : (word : Bytes) (note : Note) → find notes word ≡ Some note → IsRight lows own word note
+  pub within : (word : Bytes) (note : Note) → find notes word ≡ Some note → note.distance ≤ distance
+  pub older : (word : Bytes) (note : Note) → find start word ≡ Some note → note.distance < distance
+  pub listed : (word : Bytes) (note : Note) → find notes word ≡ Some note → (find start word ≡ Some note) ⊎ Among next word
+  pub exact : (word : Bytes) → Among next word → (note : Note) × (find notes word ≡ Some note) × (note.distance ≡ distance)
+  pub fresh : (word : Bytes) → Among next word → find start word ≡ None
+  pub kept : (word : Bytes) (note : Note) → find start word ≡ Some note → find notes word ≡ Some note
 
--- how many links lead to words that aren't among these
-abbrev pub absent : List Link → List Bytes → ℕ
-absent [] words = 0
-absent (link ∷ links) words = (if is_among words link.high then 0 else 1) + absent links words
+abbrev pub StaysSettled : {V S : Type 0} → HashMap Key V S → HashMap Key Note S → HashMap Key Note S → Type 0
+StaysSettled own old new = (distance : ℕ) (near word : Bytes) → IsSettled own old distance near word → IsSettled own new distance near word
 
--- the same, and one for a layer that isn't empty
-abbrev pub left_over : List Link → List Bytes → List Bytes → ℕ
-left_over links done [] = absent links (done ++ [])
-left_over links done (word ∷ layer) = absent links (done ++ word ∷ layer) + 1
+pub record IsPassed {V S : Type 0} (lows : Bytes → List Bytes) (own : HashMap Key V S) (start old new : HashMap Key Note S) (next : List Bytes) (distance : ℕ) (near : Bytes) (words : List Bytes) : Type 0 where
+  pub notes : AreNotes lows own start new next distance
+  pub stays : StaysSettled own old new
+  pub settled : Each (IsSettled own new distance near) words
+
+-- words to which the near word is passed on need no note of it
+abbrev pub Passes : {V S : Type 0} → HashMap Key V S → HashMap Key Note S → HashMap Key Note S → List Bytes → List Bytes → ℕ → Bytes → List Bytes → Type 0
+Passes {S = S} own old new old_next new_next distance near words =
+    (lows : Bytes → List Bytes) (start : HashMap Key Note S) → Has own near → 0 < distance → Each (λ low. Leads lows distance low near) words → AreNotes lows own start old old_next distance
+    → IsPassed lows own start old new new_next distance near words
+
+-- the words below one that has a value need no note of it
+abbrev pub OwnSettled : {V S : Type 0} → (Bytes → List Bytes) → HashMap Key V S → HashMap Key Note S → Bytes → Type 0
+OwnSettled lows own notes high = Each (IsSettled own notes 1 high) (lows high)
+
+pub record AreBegun {V S : Type 0} (lows : Bytes → List Bytes) (own : HashMap Key V S) (start notes : HashMap Key Note S) (next : List Bytes) : Type 0 where
+  pub first : AreNotes lows own start notes next 1
+  pub settled : (high : Bytes) → Has own high → OwnSettled lows own notes high
+
+abbrev pub BeginsLayers : {V S : Type 0} → (Bytes → List Bytes) → HashMap Key V S → HashMap Key Note S → HashMap Key Note S → List Bytes → Type 0
+BeginsLayers lows own old new next = ((word : Bytes) → find old word ≡ None) → AreBegun lows own old new next
+
+-- the words below one that is noted need no note of what is noted for it
+abbrev pub NoteSettled : {V S : Type 0} → (Bytes → List Bytes) → HashMap Key V S → HashMap Key Note S → Bytes → Note → Type 0
+NoteSettled lows own notes high note = Each (IsSettled own notes (note.distance + 1) note.near) (lows high)
+
+pub record NotesPassed {V S : Type 0} (lows : Bytes → List Bytes) (own : HashMap Key V S) (start old new : HashMap Key Note S) (next : List Bytes) (distance : ℕ) (words : List Bytes) : Type 0 where
+  pub notes : AreNotes lows own start new next distance
+  pub stays : StaysSettled own old new
+  pub settled : Each (λ word. (note : Note) → find start word ≡ Some note → NoteSettled lows own new word note) words
+
+-- what the words at the last distance had noted at the start is passed on
+abbrev pub PassesNotes : {V S : Type 0} → (Bytes → List Bytes) → HashMap Key V S → HashMap Key Note S → HashMap Key Note S → List Bytes → List Bytes → ℕ → List Bytes → Type 0
+PassesNotes {S = S} lows own old new old_next new_next distance words =
+    (start : HashMap Key Note S) → Each (λ word. (note : Note) × (find start word ≡ Some note) × (distance ≡ note.distance + 1)) words → AreNotes lows own start old old_next distance
+    → NotesPassed lows own start old new new_next distance words
+
+-- ---- all layers so far
+
+pub record AreLayers {V S : Type 0} (lows : Bytes → List Bytes) (own : HashMap Key V S) (notes : HashMap Key Note S) (layer : List Bytes) (distance : ℕ) : Type 0 where
+  pub right : (word : Bytes) (note : Note) → find notes word ≡ Some note → IsRight lows own word note
+  pub within : (word : Bytes) (note : Note) → find notes word ≡ Some note → note.distance ≤ distance
+  pub listed : (word : Bytes) (note : Note) → find notes word ≡ Some note → note.distance ≡ distance → Among layer word
+  pub exact : (word : Bytes) → Among layer word → (note : Note) × (find notes word ≡ Some note) × (note.distance ≡ distance)
+  pub begun : (high : Bytes) → Has own high → OwnSettled lows own notes high
+  pub passed : (high : Bytes) (note : Note) → find notes high ≡ Some note → note.distance < distance → NoteSettled lows own notes high note
+
+-- each word that has no value is noted with the nearest that has one, where there is one
+abbrev pub near_of : Option Note → Option Bytes
+near_of (Some note) = Some note.near
+near_of None = None
+
+abbrev pub AreNearest : {V S : Type 0} → List Link → HashMap Key V S → HashMap Key Note S → Type 0
+AreNearest links own notes = (word : Bytes) → find own word ≡ None → MatchOption (near_of (find notes word)) (NoneReached links (Has own) word) (IsNearest links (Has own) word)

@@ -2,7 +2,9 @@ pub mod Nearest
 pub mod Arities
 pub mod Types
 pub mod Relations
+pub mod Lowers
 pub mod Layers
+pub mod Search
 pub mod Forms
 pub mod WordTables
 pub mod Inherited

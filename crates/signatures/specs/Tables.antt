@@ -1,11 +1,11 @@
 -- The tables of a list of forms, as they are read.
-use Rattle.std.specs.Prelude.{◌≡◌, ℕ, List, [], ◌∷◌, nat_eq, if◌then◌else◌, unwrap_or}
+use Rattle.std.specs.Prelude.{◌≡◌, ℕ, List, [], nat_eq, Option, Some, None, unwrap_or}
+use Rattle.std.specs.HashMap.{get}
 use Rattle.kif_tree.specs.Terms.{Bytes}
 use Rattle.kif_tree.specs.declared.place.Located.{Located}
 use Rattle.signatures.specs.declared.told.Arity.{Arity}
 use Rattle.signatures.specs.declared.told.Arity.TheVariants.{Unstated}
 use Rattle.signatures.specs.declared.told.TypeTold.{TypeTold}
-use Rattle.signatures.specs.declared.signatures.ArgumentTypes.{ArgumentTypes}
 use Rattle.signatures.specs.declared.signatures.Signatures.{Signatures}
 use Rattle.signatures.specs.WordTables.{find}
 use Rattle.signatures.specs.Inherited.{first_found, value_in}
@@ -22,14 +22,13 @@ arity_by table word = unwrap_or (first_found (built_in word) (value_in table wor
 abbrev pub arity_in : Signatures → Bytes → Arity
 arity_in tables word = arity_by tables.arities word
 
--- the types that the first table of this argument number has for the word
-abbrev pub types_at : List ArgumentTypes → Bytes → ℕ → List TypeTold
-types_at [] word number = []
-types_at (entry ∷ entries) word number = if nat_eq entry.number number then unwrap_or (value_in entry.types word) [] else types_at entries word number
+abbrev pub types_by : Option (Inherited (List TypeTold)) → Bytes → List TypeTold
+types_by (Some table) word = unwrap_or (value_in table word) []
+types_by None word = []
 
 -- the types that the tables have for the word's argument
 abbrev pub types_in : Signatures → Bytes → ℕ → List TypeTold
-types_in tables word number = types_at tables.types.items word number
+types_in tables word number = types_by (get nat_eq tables.types number) word
 
 -- the ranges that the tables have for the word
 abbrev pub ranges_in : Signatures → Bytes → List TypeTold

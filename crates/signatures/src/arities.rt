@@ -1,5 +1,5 @@
 //! How many arguments words take of their own.
-ghost use Rattle.std.specs.Prelude.{◌≡◌, List, [], ◌∷◌, ◌++◌, IfOk, OnOk};
+ghost use Rattle.std.specs.Prelude.{◌≡◌, false, None, List, [], ◌∷◌, ◌++◌, IfOk, OnOk};
 ghost use Rattle.std.specs.List.{filter_map};
 ghost use Rattle.kif_tree.specs.Shape as shape;
 ghost use Rattle.kif_tree.specs.Terms.{Bytes};
@@ -56,10 +56,26 @@ fn is_of_any(word: &[u8]) -> bool
         || is_shown_head(word)
 }
 
+/// Whether the first byte is one of those that built-in words begin with.
+fn begins_built_in(word: &[u8]) -> bool
+    ensures { result ≡ false → spec.built_in word.now ≡ None }
+{
+    let [first, ..] = word else {
+        return false;
+    };
+    match *first {
+        b'd' | b'e' | b'f' | b'i' | b'p' | b'r' | b's' | b't' | b'v' => true,
+        _ => false,
+    }
+}
+
 /// The arity of a built-in word.
 pub fn built_in(word: &[u8]) -> Option<Arity>
     ensures { result ≡ spec.built_in word.now }
 {
+    if !begins_built_in(word) {
+        return None;
+    }
     if is_of_two(word) {
         return Some(Arity::Exactly(2));
     }

@@ -153,17 +153,6 @@ pub fn link_in(located: &Located) -> Option<FoundLink<'_>>
     })
 }
 
-/// The first word of a told `subrelation` form.
-pub fn relation_in(located: &Located) -> Option<&Text>
-    ensures { MatchOption result (spec.relation_word located.now ≡ None) (λ word. spec.relation_word located.now ≡ Some word.now) }
-{
-    let found = link_in(located)?;
-    match found.kind {
-        ChainKind::Relation => Some(found.low),
-        _ => None,
-    }
-}
-
 fn pair_of<'a>(
     head: Option<&'a Text>,
     first: Option<&'a Text>,

@@ -5,6 +5,7 @@ mod arities;
 mod below;
 mod forms;
 mod inherited;
+mod lowers;
 mod names;
 mod nearest;
 mod signatures;
@@ -15,5 +16,6 @@ mod types;
 mod word_table;
 
 pub use arities::built_in;
+pub use names::is_shown;
 pub use signatures::Signatures;
 pub use told::{Arity, TypeTold};

@@ -11,7 +11,7 @@ use crate::arities::{built_in, is_shown_head};
 use crate::inherited::Inherited;
 use crate::told::Arity;
 use crate::word_table::{WordTable, set};
-use kif_tree::{Form, Located, Text, is_headed};
+use kif_tree::{Form, Located, Text, is_headed, is_logical_word};
 use sigma_base::NoMemory;
 use std::alloc::Global;
 use std::collections::{BTreeMap, HashMap};
@@ -35,7 +35,7 @@ pub type Marks = WordTable<()>;
 /// A set of words in their order.
 pub type OrderedMarks = BTreeMap<Vec<u8>, ()>;
 
-/// Names that were found: a set to look in, and the same words in their order.
+/// Words that were looked at, and the names among them in their order.
 #[derive(Debug, Drop)]
 pub struct Found {
     seen: Marks,
@@ -88,8 +88,8 @@ fn mark_heads(alloc: Global, marks: &mut Marks, form: &Form) -> Result<(), NoMem
     Ok(())
 }
 
-/// Whether the form is only shown.
-fn is_shown(form: &Form) -> bool
+/// Whether the form is only shown: its head is `documentation`, `termFormat` or `format`. It takes no memory.
+pub fn is_shown(form: &Form) -> bool
     ensures { result ≡ relations.is_shown form.now }
 {
     is_headed(form, b"documentation")
@@ -108,18 +108,6 @@ pub fn heads(alloc: Global, forms: &[Located]) -> Result<Marks, NoMemory>
     Ok(marks)
 }
 
-fn is_logical(word: &[u8]) -> bool
-    ensures { result ≡ shape.is_among shape.logical_words word.now }
-{
-    word == b"not".as_slice()
-        || word == b"and".as_slice()
-        || word == b"or".as_slice()
-        || word == b"=>".as_slice()
-        || word == b"<=>".as_slice()
-        || word == b"forall".as_slice()
-        || word == b"exists".as_slice()
-}
-
 fn is_stated(arity: Arity) -> bool
     ensures { result ≡ spec.is_stated arity }
 {
@@ -133,7 +121,7 @@ fn is_stated(arity: Arity) -> bool
 fn is_name(heads: &Marks, arities: &Inherited<Arity>, word: &[u8]) -> bool
     ensures { result ≡ names.is_name heads.now arities.now word.now }
 {
-    if is_logical(word) {
+    if is_logical_word(word) {
         return false;
     }
     if is_shown_head(word) {
@@ -145,25 +133,57 @@ fn is_name(heads: &Marks, arities: &Inherited<Arity>, word: &[u8]) -> bool
     is_stated(arity_in(arities, word))
 }
 
-/// Adds the word, where it is a name and isn't there yet.
+/// Marks the words that have something in the table.
+fn mark_keys<V>(alloc: Global, marks: &mut Marks, table: &WordTable<V>) -> Result<(), NoMemory>
+    ensures { OnOk result (names.MarksKeys table.now marks.old marks.new) }
+{
+    for key in table.keys() {
+        mark(alloc, marks, key.as_slice())?;
+    }
+    Ok(())
+}
+
+/// The words that may be names: those that head lists or have an arity, but not all built-in ones.
+fn candidates(alloc: Global, heads: &Marks, arities: &Inherited<Arity>) -> Result<Marks, NoMemory>
+    ensures { IfOk result (names.AreCandidates heads.now arities.now) }
+{
+    let mut marks = HashMap::new(alloc);
+    mark_keys(alloc, &mut marks, heads)?;
+    mark_keys(alloc, &mut marks, &arities.own)?;
+    mark_keys(alloc, &mut marks, &arities.nearest)?;
+    Ok(marks)
+}
+
+/// Whether the word is a candidate or built in. No other word is a name.
+fn may_be_name(candidates: &Marks, word: &[u8]) -> bool
+    ensures { result ≡ names.may_be_name candidates.now word.now }
+{
+    candidates.contains_key(word) || built_in(word).is_some()
+}
+
+/// Adds the word, where it is a name. Each candidate is looked at once.
 fn add_name(
     alloc: Global,
     found: &mut Found,
+    candidates: &Marks,
     heads: &Marks,
     arities: &Inherited<Arity>,
     word: &[u8],
 ) -> Result<(), NoMemory>
+    requires { names.AreCandidates heads.now arities.now candidates.now }
     ensures { OnOk result (names.AddsNames heads.now arities.now (spec.is_word word.now) found.old found.new) }
 {
     if found.seen.contains_key(word) {
         return Ok(());
     }
-    if !is_name(heads, arities, word) {
+    if !may_be_name(candidates, word) {
         return Ok(());
     }
     set(alloc, &mut found.seen, word, ())?;
-    mark_ordered(alloc, &mut found.ordered, word)?;
-    Ok(())
+    if !is_name(heads, arities, word) {
+        return Ok(());
+    }
+    mark_ordered(alloc, &mut found.ordered, word)
 }
 
 /// Adds the names that occur in the form.
@@ -171,20 +191,22 @@ fn add_name(
 fn add_names(
     alloc: Global,
     found: &mut Found,
+    candidates: &Marks,
     heads: &Marks,
     arities: &Inherited<Arity>,
     form: &Form,
 ) -> Result<(), NoMemory>
+    requires { names.AreCandidates heads.now arities.now candidates.now }
     ensures { OnOk result (names.AddsNames heads.now arities.now (names.occurs_in form.now) found.old found.new) }
 {
     match form {
         Form::Word(text) => {
-            add_name(alloc, found, heads, arities, text.bytes())?;
+            add_name(alloc, found, candidates, heads, arities, text.bytes())?;
             Ok(())
         }
         Form::List(parts) => {
             for part in parts.items() {
-                add_names(alloc, found, heads, arities, part)?;
+                add_names(alloc, found, candidates, heads, arities, part)?;
             }
             Ok(())
         }
@@ -201,6 +223,7 @@ pub fn names_of(
 ) -> Result<OrderedMarks, NoMemory>
     ensures { IfOk result (names.AreNames heads.now arities.now (relations.is_snapshot_word forms.now)) }
 {
+    let candidates = candidates(alloc, heads, arities)?;
     let mut found = Found {
         seen: HashMap::new(alloc),
         ordered: BTreeMap::new(alloc),
@@ -209,7 +232,14 @@ pub fn names_of(
         if is_shown(&located.form) {
             continue;
         }
-        add_names(alloc, &mut found, heads, arities, &located.form)?;
+        add_names(
+            alloc,
+            &mut found,
+            &candidates,
+            heads,
+            arities,
+            &located.form,
+        )?;
     }
     let Found { ordered, .. } = found;
     Ok(ordered)

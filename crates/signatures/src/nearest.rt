@@ -1,144 +1,205 @@
-//! The nearest word by told `subrelation` forms that has a value.
-ghost use Rattle.std.specs.Prelude.{◌≡◌, ◌++◌, [], None, IfOk, OnOk, MatchOption};
-ghost use Rattle.std.specs.Option.{option_map};
-ghost use Rattle.sigma_base.specs.Lists.{Each};
-ghost use Rattle.signatures.specs.WordTables.{Has, find};
+//! The nearest words by told `subrelation` forms that have a value. Words pass it on to the words below them, layer by layer.
+ghost use Rattle.std.specs.Prelude.{◌≡◌, ℕ, List, [], ◌∷◌, suc, IfOk, OnOk};
+ghost use Rattle.kif_tree.specs.Terms.{Bytes};
+ghost use Rattle.taxonomy.specs.Told.{links};
 ghost use Rattle.signatures.specs.Layers as spec;
-ghost use Rattle.signatures.specs.Nearest.{IsNearest, NoneReached};
-ghost use Rattle.kif_tree.specs.Shape as shape;
+ghost use Rattle.signatures.specs.Lowers.{AreLowers, lows_of};
+ghost use Rattle.signatures.specs.WordTables.{Has, IsSet, find};
 
-use crate::word_table::WordTable;
-use kif_tree::Text;
+use crate::lowers::Lowers;
+use crate::word_table::{WordTable, set};
+use kif_tree::{Located, Text};
 use sigma_base::{Listed, NoMemory};
 use std::alloc::Global;
-use taxonomy::{ChainKind, Taxonomy, Told};
+use std::collections::HashMap;
 
-/// Whether the word is one of these.
-pub fn is_among(words: &[Text], word: &[u8]) -> bool
-    ensures { result ≡ shape.is_among words.now word.now }
-{
-    for other in words {
-        if word == other.bytes() {
-            return true;
-        }
-    }
-    false
+/// The nearest word that has a value, and how many links lead to it.
+#[derive(Debug, Drop)]
+pub struct Note {
+    pub distance: u64,
+    pub near: Text,
 }
 
-fn is_relation(kind: ChainKind) -> bool
-    ensures { result ≡ spec.is_relation kind }
-{
-    match kind {
-        ChainKind::Relation => true,
-        _ => false,
-    }
+/// What a word needs that is passed a near word: its first note, a better one, or none.
+#[derive(Clone, Copy, Debug)]
+enum Need {
+    First,
+    Better,
+    Nothing,
 }
 
-/// Adds the parent where it is told by a `subrelation` form and is new.
-fn add_parent(
+/// What the word needs for the near word at that distance.
+fn need_for(notes: &WordTable<Note>, word: &[u8], distance: u64, near: &[u8]) -> Need
+    ensures { result ≡ spec.need_of (find notes.now word.now) distance near.now }
+{
+    let Some(note) = notes.get(word) else {
+        return Need::First;
+    };
+    if note.distance < distance {
+        return Need::Nothing;
+    }
+    if near < note.near.bytes() {
+        return Need::Better;
+    }
+    Need::Nothing
+}
+
+/// Notes the near word for the word.
+fn set_note(
     alloc: Global,
-    done: &[Text],
-    layer: &[Text],
-    next: &mut Listed<Text>,
-    told: &Told,
+    notes: &mut WordTable<Note>,
+    word: &[u8],
+    distance: u64,
+    near: &[u8],
 ) -> Result<(), NoMemory>
-    ensures { OnOk result (next.new ≡ spec.with_parent (done.now ++ layer.now) next.old told.now) }
+    ensures { OnOk result (IsSet notes.old notes.new word.now (spec.as_note distance near.now)) }
 {
-    let parent = told.parent.bytes();
-    if !is_relation(told.kind)
-        || is_among(done, parent)
-        || is_among(layer, parent)
-        || is_among(next.items(), parent)
-    {
+    let near = Text::of(alloc, near)?;
+    set(alloc, notes, word, Note { distance, near })
+}
+
+/// Passes the near word on to a word, which stands in the next layer, if it is noted there for the first time.
+fn pass<V>(
+    alloc: Global,
+    own: &WordTable<V>,
+    notes: &mut WordTable<Note>,
+    next: &mut Listed<Text>,
+    low: &Text,
+    distance: u64,
+    near: &[u8],
+) -> Result<(), NoMemory>
+    ensures { OnOk result (spec.Passes own.now notes.old notes.new next.old next.new distance near.now (low.now ∷ [])) }
+{
+    if own.contains_key(low.bytes()) {
         return Ok(());
     }
-    next.push(told.parent.copy(alloc)?)
+    match need_for(notes, low.bytes(), distance, near) {
+        Need::Nothing => Ok(()),
+        Need::Better => set_note(alloc, notes, low.bytes(), distance, near),
+        Need::First => {
+            next.push(low.copy(alloc)?)?;
+            set_note(alloc, notes, low.bytes(), distance, near)
+        }
+    }
 }
 
-fn add_parents(
+/// Passes the near word on to each of the words.
+fn pass_on<V>(
     alloc: Global,
-    done: &[Text],
-    layer: &[Text],
+    own: &WordTable<V>,
+    notes: &mut WordTable<Note>,
     next: &mut Listed<Text>,
-    parents: &[Told],
+    lows: &[Text],
+    distance: u64,
+    near: &[u8],
 ) -> Result<(), NoMemory>
-    ensures { OnOk result (next.new ≡ spec.with_parents (done.now ++ layer.now) next.old parents.now) }
+    ensures { OnOk result (spec.Passes own.now notes.old notes.new next.old next.new distance near.now lows.now) }
 {
-    for told in parents {
-        add_parent(alloc, done, layer, next, told)?;
+    for low in lows {
+        pass(alloc, own, notes, next, low, distance, near)?;
     }
     Ok(())
 }
 
-/// The words to which `subrelation` forms lead from words of the layer, other than those of this layer and of the ones before.
-fn next_layer(
+/// Passes the near word on to the words below the word.
+fn pass_down<V>(
     alloc: Global,
-    taxonomy: &Taxonomy,
-    done: &[Text],
-    layer: &[Text],
+    lowers: &Lowers,
+    own: &WordTable<V>,
+    notes: &mut WordTable<Note>,
+    next: &mut Listed<Text>,
+    word: &[u8],
+    distance: u64,
+    near: &[u8],
+) -> Result<(), NoMemory>
+    ensures { OnOk result (spec.Passes own.now notes.old notes.new next.old next.new distance near.now (lows_of lowers.now word.now)) }
+{
+    let Some(lows) = lowers.get(word) else {
+        return Ok(());
+    };
+    pass_on(alloc, own, notes, next, lows.items(), distance, near)
+}
+
+/// The first layer: the words below those that have a value.
+fn first_layer<V>(
+    alloc: Global,
+    lowers: &Lowers,
+    own: &WordTable<V>,
+    notes: &mut WordTable<Note>,
 ) -> Result<Listed<Text>, NoMemory>
-    ensures { IfOk result (λ next. next ≡ spec.with_layer taxonomy.now.links (done.now ++ layer.now) [] layer.now) }
+    ensures { IfOk result (λ next. spec.BeginsLayers (lows_of lowers.now) own.now notes.old notes.new next) }
 {
     let mut next = Listed::new(alloc);
-    for word in layer {
-        add_parents(
-            alloc,
-            done,
-            layer,
-            &mut next,
-            taxonomy.parents(word.bytes()),
-        )?;
+    for key in own.keys() {
+        let word = key.as_slice();
+        pass_down(alloc, lowers, own, notes, &mut next, word, 1, word)?;
     }
     Ok(next)
 }
 
-/// Whether the word stands before the other one, by bytes, if there is another one.
-fn is_earlier(word: &Text, other: Option<&Text>) -> bool
-    ensures { result ≡ spec.is_earlier word.now (option_map (λ other. other.now) other.entry) }
-{
-    match other {
-        Some(other) => word.bytes() < other.bytes(),
-        None => true,
-    }
-}
-
-/// The first by bytes of the words that have a value.
-fn first_with_value<'a, V>(own: &WordTable<V>, words: &'a [Text]) -> Option<&'a Text>
-    ensures { MatchOption result (Each (λ word. Has own.now word → ⊥) words.now) (λ first. spec.IsFirst (Has own.now) words.now first.now) }
-{
-    let mut first: Option<&'a Text> = None;
-    for word in words {
-        if !own.contains_key(word.bytes()) {
-            continue;
-        }
-        if !is_earlier(word, first) {
-            continue;
-        }
-        first = Some(word);
-    }
-    first
-}
-
-/// The nearest word that has a value, for a word that has none.
-pub fn nearest<V>(
+/// Passes what is noted for the word on to the words below it.
+fn pass_note<V>(
     alloc: Global,
-    taxonomy: &Taxonomy,
+    lowers: &Lowers,
     own: &WordTable<V>,
+    notes: &mut WordTable<Note>,
+    next: &mut Listed<Text>,
     word: &[u8],
-) -> Result<Option<Text>, NoMemory>
-    requires { find own.now word.now ≡ None }
-    ensures { IfOk result (λ near. MatchOption near (NoneReached taxonomy.now.links (Has own.now) word.now) (IsNearest taxonomy.now.links (Has own.now) word.now)) }
+    distance: u64,
+) -> Result<(), NoMemory>
+    ensures { OnOk result (spec.PassesNotes (lows_of lowers.now) own.now notes.old notes.new next.old next.new distance (word.now ∷ [])) }
 {
-    let mut done = Listed::new(alloc);
-    let mut layer = Listed::new(alloc);
-    layer.push(Text::of(alloc, word)?)?;
+    let Some(note) = notes.get(word) else {
+        return Ok(());
+    };
+    let near = note.near.copy(alloc)?;
+    pass_down(
+        alloc,
+        lowers,
+        own,
+        notes,
+        next,
+        word,
+        distance,
+        near.bytes(),
+    )
+}
+
+/// The next layer: words below those of the layer that weren't noted before.
+fn next_layer<V>(
+    alloc: Global,
+    lowers: &Lowers,
+    own: &WordTable<V>,
+    notes: &mut WordTable<Note>,
+    layer: &[Text],
+    distance: u64,
+) -> Result<Listed<Text>, NoMemory>
+    ensures { IfOk result (λ next. spec.PassesNotes (lows_of lowers.now) own.now notes.old notes.new [] next distance layer.now) }
+{
+    let mut next = Listed::new(alloc);
+    for word in layer {
+        pass_note(alloc, lowers, own, notes, &mut next, word.bytes(), distance)?;
+    }
+    Ok(next)
+}
+
+/// For each word that has no value and to which another one is near, the nearest of these.
+pub fn nearest_words<V>(
+    alloc: Global,
+    forms: &[Located],
+    lowers: &Lowers,
+    own: &WordTable<V>,
+) -> Result<WordTable<Note>, NoMemory>
+    requires { AreLowers forms.now lowers.now }
+    ensures { IfOk result (spec.AreNearest (links forms.now) own.now) }
+{
+    let mut notes = HashMap::new(alloc);
+    let mut layer = first_layer(alloc, lowers, own, &mut notes)?;
+    let mut distance: u64 = 1;
     while !layer.items().is_empty() {
-        if let Some(near) = first_with_value(own, layer.items()) {
-            return Ok(Some(near.copy(alloc)?));
-        }
-        let next = next_layer(alloc, taxonomy, done.items(), layer.items())?;
-        done.append(layer)?;
+        distance += 1;
+        let next = next_layer(alloc, lowers, own, &mut notes, layer.items(), distance)?;
         layer = next;
     }
-    Ok(None)
+    Ok(notes)
 }

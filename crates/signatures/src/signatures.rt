@@ -1,72 +1,58 @@
 //! The tables of a list of forms.
 ghost use Rattle.std.specs.Prelude.{◌≡◌, IfOk, OnOk};
-ghost use Rattle.taxonomy.specs.Told.{links, told_taxonomy};
-ghost use Rattle.signatures.specs.ArgumentTables as tables;
+ghost use Rattle.taxonomy.specs.Told.{told_taxonomy};
+ghost use Rattle.signatures.specs.ArgumentTables as arguments;
+ghost use Rattle.signatures.specs.Lowers.{AreLowers};
 ghost use Rattle.signatures.specs.Tables as spec;
 
 use crate::arities::own_arities;
 use crate::forms::argument_in;
 use crate::inherited::{Inherited, inherit};
+use crate::lowers::{Lowers, lowers_of};
 use crate::names::{arity_in, heads, in_order, names_of};
 use crate::told::{Arity, TypeTold};
-use crate::types::{own_types, ranges};
+use crate::types::{NumberedTypes, own_types, ranges, take_types};
 use crate::word_table::WordTable;
 use kif_tree::{Located, Text};
 use sigma_base::{Listed, NoMemory};
 use std::alloc::Global;
+use std::collections::HashMap;
 use taxonomy::Taxonomy;
 
-/// The types of the arguments that have one number.
-#[derive(Debug, Drop)]
-struct ArgumentTypes {
-    number: u32,
-    types: Inherited<Listed<TypeTold>>,
-}
+/// The types of words' arguments, by the numbers of these.
+type ArgumentTypes = HashMap<usize, Inherited<Listed<TypeTold>>>;
 
 /// What forms tell of relations and functions.
 #[derive(Debug, Drop)]
 pub struct Signatures {
     arities: Inherited<Arity>,
-    types: Vec<ArgumentTypes>,
+    types: ArgumentTypes,
     ranges: WordTable<Listed<TypeTold>>,
     relations: Vec<Text>,
 }
 
-/// Whether one of the tables is for arguments with this number.
-fn has_number(entries: &[ArgumentTypes], number: u32) -> bool
-    ensures { result ≡ tables.has_number number entries.now }
-{
-    for entry in entries {
-        if entry.number == number {
-            return true;
-        }
-    }
-    false
-}
-
-/// Adds a table for the number of the argument that the form tells of, where there is none yet.
+/// Adds the table for the number of the argument that the form tells of, where it isn't there yet.
 fn add_number(
     alloc: Global,
     forms: &[Located],
-    taxonomy: &Taxonomy,
-    entries: &mut Vec<ArgumentTypes>,
+    lowers: &Lowers,
+    own: &mut NumberedTypes,
+    tables: &mut ArgumentTypes,
     located: &Located,
 ) -> Result<(), NoMemory>
-    requires { taxonomy.now.links ≡ links forms.now }
-    ensures { OnOk result (tables.AddsNumber forms.now entries.old.items entries.new.items located.now) }
+    requires { AreLowers forms.now lowers.now }
+    ensures { OnOk result (arguments.AddsNumber forms.now own.old own.new tables.old tables.new located.now) }
 {
     let Some(found) = argument_in(located) else {
         return Ok(());
     };
-    if has_number(entries.as_slice(), found.number) {
+    let number = found.number as usize;
+    if tables.contains_key(&number) {
         return Ok(());
     }
-    let own = own_types(alloc, forms, found.number)?;
-    let types = inherit(alloc, forms, taxonomy, own)?;
-    entries.push(ArgumentTypes {
-        number: found.number,
-        types,
-    })?;
+    let own_types = take_types(alloc, own, found.number);
+    let types = inherit(alloc, forms, lowers, own_types)?;
+    tables.insert(number, types)?;
     Ok(())
 }
 
@@ -74,31 +60,17 @@ fn add_number(
 fn argument_types(
     alloc: Global,
     forms: &[Located],
-    taxonomy: &Taxonomy,
-) -> Result<Vec<ArgumentTypes>, NoMemory>
-    requires { taxonomy.now.links ≡ links forms.now }
-    ensures { IfOk result (λ entries. tables.AreTables forms.now forms.now entries.items) }
+    lowers: &Lowers,
+) -> Result<ArgumentTypes, NoMemory>
+    requires { AreLowers forms.now lowers.now }
+    ensures { IfOk result (arguments.AreTables forms.now forms.now) }
 {
-    let mut entries = Vec::new(alloc);
+    let mut own = own_types(alloc, forms)?;
+    let mut tables = HashMap::new(alloc);
     for located in forms {
-        add_number(alloc, forms, taxonomy, &mut entries, located)?;
+        add_number(alloc, forms, lowers, &mut own, &mut tables, located)?;
     }
-    Ok(entries)
-}
-
-/// The types of the word's argument in the tables.
-fn types_among<'a>(entries: &'a [ArgumentTypes], word: &[u8], number: u32) -> &'a [TypeTold]
-    ensures { result.now ≡ spec.types_at entries.now word.now number }
-{
-    for entry in entries {
-        if entry.number == number {
-            return match entry.types.value(word) {
-                Some(types) => types.items(),
-                None => &[],
-            };
-        }
-    }
-    &[]
+    Ok(tables)
 }
 
 impl Signatures {
@@ -107,9 +79,10 @@ impl Signatures {
         requires { taxonomy.now ≡ told_taxonomy forms.now }
         ensures { IfOk result (spec.AreSignatures forms.now) }
     {
+        let lowers = lowers_of(alloc, forms)?;
         let own = own_arities(alloc, forms, taxonomy)?;
-        let arities = inherit(alloc, forms, taxonomy, own)?;
-        let types = argument_types(alloc, forms, taxonomy)?;
+        let arities = inherit(alloc, forms, &lowers, own)?;
+        let types = argument_types(alloc, forms, &lowers)?;
         let ranges = ranges(alloc, forms)?;
         let heads = heads(alloc, forms)?;
         let names = names_of(alloc, forms, &heads, &arities)?;
@@ -133,7 +106,20 @@ impl Signatures {
     pub fn domain_of(&self, relation: &[u8], argument: u32) -> &[TypeTold]
         ensures { result.now ≡ spec.types_in self.now relation.now argument }
     {
-        types_among(self.types.as_slice(), relation, argument)
+        self.domain_at(relation, argument as usize)
+    }
+
+    /// The same by a number of any size. It takes no memory.
+    pub fn domain_at(&self, relation: &[u8], argument: usize) -> &[TypeTold]
+        ensures { result.now ≡ spec.types_in self.now relation.now argument }
+    {
+        let Some(table) = self.types.get(&argument) else {
+            return &[];
+        };
+        match table.value(relation) {
+            Some(types) => types.items(),
+            None => &[],
+        }
     }
 
     /// The types of the function's values, in order of the forms that tell them. It takes no memory.

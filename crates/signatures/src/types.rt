@@ -1,13 +1,14 @@
 //! Types told of arguments and of values.
-ghost use Rattle.std.specs.Prelude.{◌≡◌, [], IfOk, OnOk, unwrap_or};
+ghost use Rattle.std.specs.Prelude.{◌≡◌, ℕ, false, nat_eq, IfOk, OnOk};
 ghost use Rattle.kif_tree.specs.Terms.{Bytes};
+ghost use Rattle.signatures.specs.Forms.{found_argument};
 ghost use Rattle.signatures.specs.TypeTables as spec;
 ghost use Rattle.signatures.specs.Types as types;
 ghost use Rattle.signatures.specs.WordTables.{find};
 
-use crate::forms::{argument_in, pair_in};
+use crate::forms::{FoundArgument, argument_in, pair_in};
 use crate::told::TypeTold;
-use crate::word_table::{WordTable, set};
+use crate::word_table::{WordTable, push};
 use kif_tree::{Located, Place, Text};
 use sigma_base::{Listed, NoMemory};
 use std::alloc::Global;
@@ -15,6 +16,9 @@ use std::collections::HashMap;
 
 /// The types that are told of each word.
 pub type Types = WordTable<Listed<TypeTold>>;
+
+/// The types that are told of words' arguments, by the numbers of these.
+pub type NumberedTypes = HashMap<u32, Types>;
 
 /// A type that a form tells of a word.
 #[derive(Clone, Copy, Debug)]
@@ -38,14 +42,10 @@ fn tells_subclass(of_instances: &[u8], of_subclasses: &[u8], head: &[u8]) -> Opt
     None
 }
 
-/// The type that the form tells of an argument with this number.
-fn type_in(located: &Located, number: u32) -> Option<FoundType<'_>>
-    ensures { (word : Bytes) → spec.found_for word result ≡ spec.type_at number word located.now }
+/// The type that the form tells of an argument.
+fn told_type(found: FoundArgument<'_>) -> Option<FoundType<'_>>
+    ensures { (word : Bytes) → spec.found_for word result ≡ types.type_in word found.entry.number (found_argument found.entry) }
 {
-    let found = argument_in(located)?;
-    if found.number != number {
-        return None;
-    }
     let subclass = tells_subclass(b"domain", b"domainSubclass", found.head.bytes())?;
     Some(FoundType {
         word: found.word,
@@ -69,17 +69,6 @@ fn range_in(located: &Located) -> Option<FoundType<'_>>
     })
 }
 
-/// Takes the word's types out of the table.
-fn take(alloc: Global, table: &mut Types, word: &[u8]) -> Listed<TypeTold>
-    ensures list { result ≡ unwrap_or (find table.old word.now) [] }
-    ensures others { spec.IsTaken table.old table.new word.now }
-{
-    match table.remove(word) {
-        Some(types) => types,
-        None => Listed::new(alloc),
-    }
-}
-
 /// Adds what is found last for its word.
 fn add(alloc: Global, table: &mut Types, found: Option<FoundType<'_>>) -> Result<(), NoMemory>
     ensures { OnOk result (spec.AddsFound table.old table.new found.entry) }
@@ -88,25 +77,51 @@ fn add(alloc: Global, table: &mut Types, found: Option<FoundType<'_>>) -> Result
         return Ok(());
     };
     let class = found.class.copy(alloc)?;
-    let mut types = take(alloc, table, found.word.bytes());
-    types.push(TypeTold {
+    let told = TypeTold {
         subclass: found.subclass,
         class,
         place: found.place,
-    })?;
-    set(alloc, table, found.word.bytes(), types)?;
+    };
+    push(alloc, table, found.word.bytes(), told)
+}
+
+/// Takes the table for the number out of the tables.
+pub fn take_types(alloc: Global, tables: &mut NumberedTypes, number: u32) -> Types
+    ensures table { (word : Bytes) → find result word ≡ spec.types_for tables.old number word }
+    ensures others { (other : ℕ) (word : Bytes) → nat_eq other number ≡ false → spec.types_for tables.new other word ≡ spec.types_for tables.old other word }
+{
+    match tables.remove(&number) {
+        Some(table) => table,
+        None => HashMap::new(alloc),
+    }
+}
+
+/// Adds the type that the form tells of an argument.
+fn add_argument(
+    alloc: Global,
+    tables: &mut NumberedTypes,
+    located: &Located,
+) -> Result<(), NoMemory>
+    ensures { OnOk result (spec.AddsArgument tables.old tables.new located.now) }
+{
+    let Some(found) = argument_in(located) else {
+        return Ok(());
+    };
+    let mut table = take_types(alloc, tables, found.number);
+    add(alloc, &mut table, told_type(found))?;
+    tables.insert(found.number, table)?;
     Ok(())
 }
 
-/// The types of the words' arguments that have this number.
-pub fn own_types(alloc: Global, forms: &[Located], number: u32) -> Result<Types, NoMemory>
-    ensures { IfOk result (λ table. spec.AreToldTypes (spec.type_at number) forms.now table) }
+/// The types of the words' arguments, by the arguments' numbers.
+pub fn own_types(alloc: Global, forms: &[Located]) -> Result<NumberedTypes, NoMemory>
+    ensures { IfOk result (spec.AreArguments forms.now) }
 {
-    let mut table = HashMap::new(alloc);
+    let mut tables = HashMap::new(alloc);
     for located in forms {
-        add(alloc, &mut table, type_in(located, number))?;
+        add_argument(alloc, &mut tables, located)?;
     }
-    Ok(table)
+    Ok(tables)
 }
 
 /// The types of functions' values.

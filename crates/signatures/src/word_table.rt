@@ -1,8 +1,8 @@
 //! Tables with a value for some words.
-ghost use Rattle.std.specs.Prelude.{OnOk};
+ghost use Rattle.std.specs.Prelude.{◌≡◌, [], OnOk, unwrap_or};
 ghost use Rattle.signatures.specs.WordTables as spec;
 
-use sigma_base::NoMemory;
+use sigma_base::{Listed, NoMemory};
 use std::alloc::Global;
 use std::collections::HashMap;
 
@@ -21,4 +21,29 @@ pub fn set<V: Drop>(
     let key = Vec::from_slice(alloc, word)?;
     table.insert(key, value)?;
     Ok(())
+}
+
+/// Takes the word's list out of the table.
+fn take<T: Drop>(alloc: Global, table: &mut WordTable<Listed<T>>, word: &[u8]) -> Listed<T>
+    ensures list { result ≡ unwrap_or (spec.find table.old word.now) [] }
+    ensures others { spec.IsTaken table.old table.new word.now }
+{
+    match table.remove(word) {
+        Some(items) => items,
+        None => Listed::new(alloc),
+    }
+}
+
+/// Adds the item last to the word's list.
+pub fn push<T: Drop>(
+    alloc: Global,
+    table: &mut WordTable<Listed<T>>,
+    word: &[u8],
+    item: T,
+) -> Result<(), NoMemory>
+    ensures { OnOk result (spec.IsPushed table.old table.new word.now item) }
+{
+    let mut items = take(alloc, table, word);
+    items.push(item)?;
+    set(alloc, table, word, items)
 }

@@ -1,15 +1,13 @@
 -- Chains of words against paths of numbers.
-use Rattle.std.proofs.Common.{◌≡◌, ◌≢◌, ℕ, suc, zero, ◌<◌, ◌⊎◌, List, [], ◌∷◌, ◌++◌, map, filter, length, get_or, take, drop, Bool, true, false, if◌then◌else◌, not, refl, sym, ap, subst, ◌∙◌, arith, inl, inr}
+use Rattle.std.proofs.Common.{◌≡◌, ◌≢◌, ℕ, suc, zero, ◌<◌, ◌⊎◌, List, [], ◌∷◌, ◌++◌, map, filter, length, get_or, take, drop, Bool, true, false, if◌then◌else◌, refl, sym, ap, subst, ◌∙◌, arith, inl, inr}
 use Rattle.std.specs.Prelude.{Contains, MatchBool, Option, Some, None}
-use Rattle.std.specs.declared.alloc.Global.{Global}
-use Rattle.std.specs.declared.vec.Vec.{Vec}
 use Rattle.std.specs.Str.{bytes_eq}
 use Rattle.std.proofs.Math.Seq.{split_at}
 use Rattle.std.proofs.lemmas.Bool.{cases_order}
 use Rattle.std.proofs.lemmas.List.{get_or_read, map-append}
 use Rattle.std.proofs.lemmas.Slice.Eq.{bytes_eq-Decides}
 use Rattle.kif_tree.specs.Terms.{Bytes}
-use Rattle.sigma_base.specs.Lists.{Each}
+use Rattle.sigma_base.specs.Lists.{Each, each_map}
 use Rattle.taxonomy.specs.declared.closure.Edge.{Edge}
 use Rattle.kif_tree.specs.declared.place.Place.{Place}
 use Rattle.taxonomy.specs.declared.numbered.NumberedGroup.{NumberedGroup}
@@ -20,14 +18,13 @@ use Rattle.taxonomy.specs.declared.told.ChainKind.TheVariants as kinds
 use Rattle.taxonomy.specs.declared.told.Told.{Told}
 use Rattle.taxonomy.specs.Chains.{Joins, OfKind, IsChain, Chain, later_kind, parents, as_told, IsAtOrAbove}
 use Rattle.taxonomy.specs.Disjoint.{Separates, AreNotDisjoint, AreDisjointBy}
-use Rattle.taxonomy.specs.Graph.{Follows, Path}
-use Rattle.taxonomy.specs.Names.{AreNumbered, number_of}
+use Rattle.taxonomy.specs.Graph.{Follows, Path, at_or_below}
 use Rattle.taxonomy.specs.Numbered.{word, named, named_group, AreBelow, LinksWithin, GroupsWithin}
 use Rattle.taxonomy.specs.Runs.{has}
 use Rattle.taxonomy.specs.Starts.{IsShared}
-use Rattle.taxonomy.specs.Tables.{edge_of, AreEdges, HasEdges, AreDistinct, AreSets, AreSelfStarts, Passes, IsOther}
+use Rattle.taxonomy.specs.Tables.{edge_of, AreEdges, HasEdges, AreDistinct, AreRows, AreSets, AreSelfStarts, Passes, IsOther}
 use Rattle.taxonomy.specs.Told.{Link, DisjointWords}
-use Rattle.taxonomy.proofs.GraphLaws.{each_in, path_none}
+use Rattle.taxonomy.proofs.GraphLaws.{each_in, path_none, below_sound, below_complete}
 use Rattle.taxonomy.proofs.NameLaws.{contains_word}
 
 -- ---- lists
@@ -48,15 +45,6 @@ map_in f [] x (k, lt, is) = absurd (omega arith)
 map_in f (y ∷ xs) x (zero, lt, is) = (0, omega arith, ap f is)
 map_in f (y ∷ xs) x (suc k, lt, is) = contains_tail (f y) (map f xs) (f x) (map_in f xs x (k, omega arith, is))
 
--- ---- distinct words
-
-pub distinct_words : (numbers : List (Vec ℕ Global × ℕ)) (words : List Bytes) → AreNumbered numbers words → AreDistinct words
-distinct_words numbers words h = λ n m lt below same.
-    let first = h.known n lt in
-    let second = h.known m below in
-    let both : Some n ≡ Some m = sym first ∙ (ap (number_of numbers) same ∙ second) in
-    cc
-
 -- ---- rows
 
 pub no_row : (words : List Bytes) (links : List NumberedLink) (text : Bytes) → LinksWithin (length words) links → (Contains words text → ⊥) → [] ≡ parents (map (named words) links) text
@@ -67,6 +55,9 @@ no_row words (link ∷ links) text within fresh = go (bytes_eq (word words link.
         → [] ≡ map as_told (if b then named words link ∷ filter (λ (l : Link). bytes_eq l.low text) (map (named words) links) else filter (λ (l : Link). bytes_eq l.low text) (map (named words) links))
     go true e ih = absurd (fresh (contains_word words link.low text within.0.0 ((bytes_eq-Decides (word words link.low) text).0 e)))
     go false e ih = ih
+
+pub row_at : (words : List Bytes) (links : List NumberedLink) (rows : List (List Told)) (n : ℕ) (row : List Told) → AreRows words links rows → n < length words → row ≡ get_or rows n row → row ≡ parents (map (named words) links) (word words n)
+row_at words links rows n row h lt is = get_or_read rows n row (omega (arith, lt, h.long)) is [] ∙ h.are n lt
 
 pub in_parents : (links : List Link) (text : Bytes) (told : Told) → Contains (parents links text) told → (link : Link) × Contains links link × (link.low ≡ text) × (as_told link ≡ told)
 in_parents [] text told (k, lt, is) = absurd (omega arith)
@@ -131,22 +122,19 @@ chain_of_path words links kind edges are (edge ∷ path) n high told follows =
 
 -- ---- the readers' answers
 
-pub reaches_is : (words : List Bytes) (links : List NumberedLink) (kind : ChainKind) (sets : List (List Run)) (runs : List Run) (low high : ℕ) (text : Bytes) (b : Bool) → LinksWithin (length words) links → AreDistinct words
-    → AreSets kind (length words) links sets → low < length words → word words low ≡ text → high < length words → runs ≡ get_or sets high runs → b ≡ has runs low
+pub reaches_is : (words : List Bytes) (links : List NumberedLink) (kind : ChainKind) (sets : List (List Run)) (low high : ℕ) (text : Bytes) (b : Bool) → LinksWithin (length words) links → AreDistinct words
+    → AreSets kind (length words) links sets → low < length words → word words low ≡ text → high < length words → b ≡ has (at_or_below sets high) low
     → MatchBool b (Passes (map (named words) links) kind text (word words high)) (Passes (map (named words) links) kind text (word words high) → ⊥)
-reaches_is words links kind sets runs low high text b within distinct s lt is below row e =
+reaches_is words links kind sets low high text b within distinct s lt is below e =
     subst (λ (t : Bytes). MatchBool b (Passes (map (named words) links) kind t (word words high)) (Passes (map (named words) links) kind t (word words high) → ⊥)) is (go b e)
   where
-    at_row : runs ≡ get_or sets high []
-    at_row = get_or_read sets high runs (omega (arith, s.closed.long, below)) row []
-
-    go : (b : Bool) → b ≡ has runs low → MatchBool b (Passes (map (named words) links) kind (word words low) (word words high)) (Passes (map (named words) links) kind (word words low) (word words high) → ⊥)
+    go : (b : Bool) → b ≡ has (at_or_below sets high) low → MatchBool b (Passes (map (named words) links) kind (word words low) (word words high)) (Passes (map (named words) links) kind (word words low) (word words high) → ⊥)
     go true e =
-        let p = s.closed.sound low high (ap (λ (x : List Run). has x low) (sym at_row) ∙ sym e) in
+        let p = below_sound s.edges (length words) sets low high s.closed (sym e) in
         chain_of_path words links kind s.edges s.are p.path low high p.among p.follows
     go false e = λ passes.
         let p = path_of_chain words links kind s.edges s.are.all within distinct passes.chain passes.told passes.are low high lt below passes.joins in
-        let no_way : false ≡ true = e ∙ (ap (λ (x : List Run). has x low) at_row ∙ s.closed.complete low high lt p) in
+        let no_way : false ≡ true = e ∙ below_complete s.edges (length words) sets low high s.closed p in
         absurd (cc)
 
 low_among : (words : List Bytes) (links : List NumberedLink) (link : Link) → LinksWithin (length words) links → Contains (map (named words) links) link → Contains words link.low × Contains words link.high
@@ -204,11 +192,36 @@ no_chain links kind low high row row_is none c = go c.chain c.told c.is c.joins
 
 -- ---- disjoint words
 
--- neither a class chain nor an instance chain, and not the word itself
-pub not_above : (links : List Link) (text above : Bytes) → (text ≡ above → ⊥) → (Chain links kinds.Class text above → ⊥) → (Chain links kinds.Instance text above → ⊥) → IsAtOrAbove links text above → ⊥
-not_above links text above apart no_class no_instance (inl same) = apart same
-not_above links text above apart no_class no_instance (inr (inl class)) = no_class class
-not_above links text above apart no_class no_instance (inr (inr instance)) = no_instance instance
+-- none or more class links lead to a word at or above
+pub passes_above : (links : List Link) (text above : Bytes) → Passes links kinds.Class text above → IsAtOrAbove links text above
+passes_above links text above p = go p.chain p.told p.are p.joins
+  where
+    go : (chain : List Link) → Each (λ (link : Link). Contains links link) chain → OfKind kinds.Class chain → Joins chain text above → IsAtOrAbove links text above
+    go [] told are joins = inl joins
+    go (link ∷ chain) told are joins = inr (inl (record { chain = link ∷ chain; told = told; is = are; joins = joins }))
+
+-- neither class links nor an instance chain
+pub not_above : (links : List Link) (text above : Bytes) → (Passes links kinds.Class text above → ⊥) → (Chain links kinds.Instance text above → ⊥) → IsAtOrAbove links text above → ⊥
+not_above links text above no_class no_instance (inl same) = no_class (record { chain = []; told = tt; are = tt; joins = same })
+not_above links text above no_class no_instance (inr (inl class)) = no_class (go class.chain class.told class.is class.joins)
+  where
+    go : (chain : List Link) → Each (λ (link : Link). Contains links link) chain → IsChain kinds.Class chain → Joins chain text above → Passes links kinds.Class text above
+    go [] told is joins = absurd is
+    go (link ∷ chain) told is joins = record { chain = link ∷ chain; told = told; are = is; joins = joins }
+not_above links text above no_class no_instance (inr (inr instance)) = no_instance instance
+
+pub class_above : (words : List Bytes) (links : List NumberedLink) (sets : List (List Run)) (low high : ℕ) → LinksWithin (length words) links → AreDistinct words → AreSets kinds.Class (length words) links sets
+    → low < length words → high < length words → true ≡ has (at_or_below sets high) low → IsAtOrAbove (map (named words) links) (word words low) (word words high)
+class_above words links sets low high within distinct s lt below e =
+    passes_above (map (named words) links) (word words low) (word words high) (reaches_is words links kinds.Class sets low high (word words low) true within distinct s lt refl below e)
+
+pub or_instance : (words : List Bytes) (links : List NumberedLink) (sets : List (List Run)) (low high : ℕ) (b : Bool) → LinksWithin (length words) links → AreDistinct words → AreSets kinds.Class (length words) links sets
+    → low < length words → high < length words → false ≡ has (at_or_below sets high) low
+    → MatchBool b (Chain (map (named words) links) kinds.Instance (word words low) (word words high)) (Chain (map (named words) links) kinds.Instance (word words low) (word words high) → ⊥)
+    → MatchBool b (IsAtOrAbove (map (named words) links) (word words low) (word words high)) (IsAtOrAbove (map (named words) links) (word words low) (word words high) → ⊥)
+or_instance words links sets low high true within distinct s lt below e chain = inr (inr chain)
+or_instance words links sets low high false within distinct s lt below e none =
+    not_above (map (named words) links) (word words low) (word words high) (reaches_is words links kinds.Class sets low high (word words low) false within distinct s lt refl below e) none
 
 -- the group's numbers, none of which is found
 abbrev pub NoneFoundIn : List Link → List Bytes → List ℕ → Bytes → Option ℕ → Type 0
@@ -340,9 +353,9 @@ none_before words links groups starts n text within inside distinct s lt is =
         numbers : AreBelow (length words) group.words
         numbers = each_in (λ (g : NumberedGroup). AreBelow (length words) g.words) groups group (i, below, sym there) inside
 
-        path : (k : ℕ) (above : Bytes) → Contains group.words k → word words k ≡ above → IsAtOrAbove (map (named words) links) (word words n) above → has (get_or s.sets k []) n ≡ true
+        path : (k : ℕ) (above : Bytes) → Contains group.words k → word words k ≡ above → IsAtOrAbove (map (named words) links) (word words n) above → has (at_or_below s.sets k) n ≡ true
         path k above among same h =
-            s.closed.complete n k lt
+            below_complete s.edges (length words) s.sets n k s.closed
             (path_above words links s.edges s.classes s.instances within distinct n k lt (each_in (λ (m : ℕ). m < length words) group.words k among numbers)
             (subst (IsAtOrAbove (map (named words) links) (word words n)) (sym same) h))
 
@@ -356,13 +369,6 @@ none_before words links groups starts n text within inside distinct s lt is =
           in_one = path one.0 separates.one one.1 one.2 separates.above_first;
           in_other = path other.0 separates.other other.1 other.2 separates.above_second;
         }
-
-pub same_bytes : (xs ys : Bytes) → false ≡ not (bytes_eq xs ys) → xs ≡ ys
-same_bytes xs ys e = go (bytes_eq xs ys) refl e
-  where
-    go : (b : Bool) → bytes_eq xs ys ≡ b → false ≡ not b → xs ≡ ys
-    go true test e = (bytes_eq-Decides xs ys).0 test
-    go false test e = absurd (cc)
 
 -- nothing is at or above a word that has no number, but the word itself
 unknown_above : (words : List Bytes) (links : List NumberedLink) (n : ℕ) (text : Bytes) → LinksWithin (length words) links → (Contains words text → ⊥) → n < length words
@@ -378,14 +384,25 @@ unknown_above words links n text within fresh lt above = cases above
     cases (inr (inl c)) = none kinds.Class c.chain c.told c.is c.joins
     cases (inr (inr c)) = none kinds.Instance c.chain c.told c.is c.joins
 
-pub none_unknown : (words : List Bytes) (links : List NumberedLink) (groups : List NumberedGroup) (many : ℕ) (text : Bytes) → LinksWithin (length words) links → GroupsWithin (length words) groups
-    → (Contains words text → ⊥) → Each (λ (group : NumberedGroup). Separates (map (named words) links) (named_group words group) text text → ⊥) (take many groups)
-none_unknown words links groups many text within inside fresh =
-    each_of_take (λ (group : NumberedGroup). Separates (map (named words) links) (named_group words group) text text → ⊥) groups many no_group
+pub unknown_first : (words : List Bytes) (links : List NumberedLink) (groups : List NumberedGroup) (first second : Bytes) → LinksWithin (length words) links → GroupsWithin (length words) groups
+    → (Contains words first → ⊥) → NoneSeparates (map (named words) links) words groups first second
+unknown_first words links groups first second within inside fresh =
+    each_map (λ (group : NumberedGroup). AreBelow (length words) group.words) (λ (group : NumberedGroup). Separates (map (named words) links) (named_group words group) first second → ⊥)
+    (λ group numbers s.
+    let one = in_map (word words) group.words s.one s.has_one in
+    unknown_above words links one.0 first within fresh (each_in (λ (m : ℕ). m < length words) group.words one.0 one.1 numbers) (subst (IsAtOrAbove (map (named words) links) first) (sym one.2) s.above_first)) groups inside
+
+pub unknown_second : (words : List Bytes) (links : List NumberedLink) (groups : List NumberedGroup) (first second : Bytes) → LinksWithin (length words) links → GroupsWithin (length words) groups
+    → (Contains words second → ⊥) → NoneSeparates (map (named words) links) words groups first second
+unknown_second words links groups first second within inside fresh =
+    each_map (λ (group : NumberedGroup). AreBelow (length words) group.words) (λ (group : NumberedGroup). Separates (map (named words) links) (named_group words group) first second → ⊥)
+    (λ group numbers s.
+    let other = in_map (word words) group.words s.other s.has_other in
+    unknown_above words links other.0 second within fresh (each_in (λ (m : ℕ). m < length words) group.words other.0 other.1 numbers) (subst (IsAtOrAbove (map (named words) links) second) (sym other.2) s.above_second)) groups inside
+
+pub unknown_low : (words : List Bytes) (links : List NumberedLink) (kind : ChainKind) (low high : Bytes) → LinksWithin (length words) links → (Contains words low → ⊥) → Chain (map (named words) links) kind low high → ⊥
+unknown_low words links kind low high within fresh c = go c.chain c.told c.is c.joins
   where
-    no_group : (i : ℕ) (group : NumberedGroup) → i < many → i < length groups → group ≡ get_or groups i group → Separates (map (named words) links) (named_group words group) text text → ⊥
-    no_group i group before below there s =
-        let one = in_map (word words) group.words s.one s.has_one in
-        let numbers = each_in (λ (g : NumberedGroup). AreBelow (length words) g.words) groups group (i, below, sym there) inside in
-        unknown_above words links one.0 text within fresh (each_in (λ (m : ℕ). m < length words) group.words one.0 one.1 numbers)
-        (subst (IsAtOrAbove (map (named words) links) text) (sym one.2) s.above_first)
+    go : (chain : List Link) → Each (λ (link : Link). Contains (map (named words) links) link) chain → IsChain kind chain → Joins chain low high → ⊥
+    go [] told is joins = is
+    go (link ∷ chain) told is joins = fresh (subst (Contains words) joins.0 (low_among words links link within told.0).0)

@@ -1,5 +1,6 @@
 pub mod GraphLaws
 pub mod NameLaws
+pub mod ReorderLaws
 pub mod FormLaws
 pub mod NumberedLaws
 pub mod TableLaws

@@ -4,14 +4,14 @@ use Rattle.std.specs.Prelude.{Contains}
 use Rattle.std.specs.List.Sorted.{IsPermutation}
 use Rattle.std.proofs.lemmas.Bool.{cases_order}
 use Rattle.std.proofs.lemmas.Bool.Decides.{nat_tests}
-use Rattle.std.proofs.lemmas.List.{get_or_default, get_or_read, take_more}
+use Rattle.std.proofs.lemmas.List.{append_assoc, get_or_default, get_or_read, take_more}
 use Rattle.std.proofs.lemmas.List.Elements.{Contains-append_left, Contains-append_right, Contains-push_cases}
 use Rattle.std.proofs.lemmas.List.Sorted.{Contains-permutation}
 use Rattle.sigma_base.specs.Lists.{Each, each_map}
 use Rattle.taxonomy.specs.declared.numbered.NumberedGroup.{NumberedGroup}
 use Rattle.taxonomy.specs.declared.runs.Run.{Run}
 use Rattle.taxonomy.specs.declared.starts.Reach.{Reach}
-use Rattle.taxonomy.specs.Graph.{Sets, set_of}
+use Rattle.taxonomy.specs.Graph.{Sets, set_of, own, at_or_below}
 use Rattle.taxonomy.specs.Numbered.{AreBelow}
 use Rattle.taxonomy.specs.Runs.{has, in_run}
 use Rattle.taxonomy.specs.Starts.{Piece, as_piece, with_piece, in_piece, HasPiece, ArePieces, Reaches, IsTwice, IsShared, AreLowered, AreStarts}
@@ -44,19 +44,23 @@ piece_in label number (run ∷ runs) h = go (or_cases (in_run number run) (has r
     go (inl here) ih = (as_piece label run, contains_head (as_piece label run) (map (as_piece label) runs), refl, here)
     go (inr later) ih = let p = ih later in (p.0, contains_tail (as_piece label run) (map (as_piece label) runs) p.0 p.1, p.2, p.3)
 
-pub pieces_step : (sets : Sets) (words : List ℕ) (i : ℕ) (runs given : List Run) (pieces longer : List Piece) → i < length words → AreBelow (length sets) words → runs ≡ get_or sets (get_or words i 0) runs
-    → given ≡ runs → longer ≡ pieces ++ map (as_piece (get_or words i 0)) given → ArePieces sets (take i words) pieces → ArePieces sets (take (i + 1) words) longer
-pieces_step sets words i runs given pieces longer lt below row same is h =
-    subst (λ (ps : List Piece). ArePieces sets (take (i + 1) words) ps) (sym (is ∙ ap (λ (x : List Run). pieces ++ map (as_piece (get_or words i 0)) x) same))
+pub pieces_step : (sets : Sets) (words : List ℕ) (i : ℕ) (runs given : List Run) (pieces mid longer : List Piece) → i < length words → AreBelow (length sets) words → runs ≡ get_or sets (get_or words i 0) runs
+    → given ≡ runs → mid ≡ pieces ++ as_piece (get_or words i 0) (own (get_or words i 0)) ∷ [] → longer ≡ mid ++ map (as_piece (get_or words i 0)) given → ArePieces sets (take i words) pieces
+    → ArePieces sets (take (i + 1) words) longer
+pieces_step sets words i runs given pieces mid longer lt below row same first is h =
+    subst (λ (ps : List Piece). ArePieces sets (take (i + 1) words) ps) (sym all)
     (each_take_more (Q (pieces ++ more)) words i 0 lt
     (each_map (Q pieces) (Q (pieces ++ more)) (λ label q n here. let p = q n here in (p.0, Contains-append_left pieces more p.0 p.1, p.2, p.3)) (take i words) h)
-    (λ n here. let p = piece_in label n runs (subst (λ (x : List Run). has x n ≡ true) (sym at_row) here) in (p.0, Contains-append_right pieces more p.0 p.1, p.2, p.3)))
+    (λ n here. let p = piece_in label n (own label ∷ runs) (subst (λ (x : List Run). has (own label ∷ x) n ≡ true) (sym at_row) here) in (p.0, Contains-append_right pieces more p.0 p.1, p.2, p.3)))
   where
     label : ℕ
     label = get_or words i 0
 
     more : List Piece
-    more = map (as_piece label) runs
+    more = map (as_piece label) (own label ∷ runs)
+
+    all : longer ≡ pieces ++ more
+    all = is ∙ (ap (λ (x : List Run). mid ++ map (as_piece label) x) same ∙ (ap (λ (ps : List Piece). ps ++ map (as_piece label) runs) first ∙ append_assoc pieces (as_piece label (own label) ∷ []) (map (as_piece label) runs)))
 
     within : label < length sets
     within = each_in (λ (n : ℕ). n < length sets) words label (contains_at words i 0 lt) below
@@ -65,7 +69,7 @@ pieces_step sets words i runs given pieces longer lt below row same is h =
     at_row = get_or_read sets label runs within row []
 
     Q : List Piece → ℕ → Type 0
-    Q ps label = (number : ℕ) → has (set_of sets label) number ≡ true → HasPiece ps label number
+    Q ps label = (number : ℕ) → has (at_or_below sets label) number ≡ true → HasPiece ps label number
 
 -- ---- the sweep
 
@@ -112,8 +116,8 @@ sweep_step pieces i first old new group others end next lt bound end_is reaches 
 
 pub twice_of_shared : (sets : Sets) (words : List ℕ) (pieces sorted : List Piece) (number : ℕ) → ArePieces sets words pieces → IsPermutation pieces sorted → IsShared sets words number → IsTwice sorted number
 twice_of_shared sets words pieces sorted number h same s =
-    let p = each_in (λ (label : ℕ). (n : ℕ) → has (set_of sets label) n ≡ true → HasPiece pieces label n) words s.one s.has_one h number s.in_one in
-    let q = each_in (λ (label : ℕ). (n : ℕ) → has (set_of sets label) n ≡ true → HasPiece pieces label n) words s.other s.has_other h number s.in_other in
+    let p = each_in (λ (label : ℕ). (n : ℕ) → has (at_or_below sets label) n ≡ true → HasPiece pieces label n) words s.one s.has_one h number s.in_one in
+    let q = each_in (λ (label : ℕ). (n : ℕ) → has (at_or_below sets label) n ≡ true → HasPiece pieces label n) words s.other s.has_other h number s.in_other in
     record {
       one = p.0;
       other = q.0;

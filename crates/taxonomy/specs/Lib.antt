@@ -7,6 +7,7 @@ pub mod Graph
 pub mod Names
 pub mod Forms
 pub mod Numbered
+pub mod Reorder
 pub mod Starts
 pub mod Tables
 pub mod Laws

@@ -5,18 +5,20 @@ use Rattle.std.specs.Str.{bytes_eq}
 use Rattle.std.specs.declared.alloc.Global.{Global}
 use Rattle.std.specs.declared.vec.Vec.{Vec}
 use Rattle.kif_tree.specs.Terms.{Bytes}
+use Rattle.sigma_base.specs.Lists.{Each}
 
 abbrev pub none : List Bytes
 none = []
 
--- the number that the table has for the word
-abbrev pub number_of : List (Vec ℕ Global × ℕ) → Bytes → Option ℕ
-number_of numbers word = lookup (λ (key : Vec ℕ Global). bytes_eq word key.items) numbers
+-- the key that the table has for the word
+abbrev pub key_of : List (Vec ℕ Global × ℕ) → Bytes → Option ℕ
+key_of keys word = lookup (λ (key : Vec ℕ Global). bytes_eq word key.items) keys
 
--- the table has for each word its place in the list, and for nothing else a number
-pub record AreNumbered (numbers : List (Vec ℕ Global × ℕ)) (words : List Bytes) : Type 0 where
-  pub found : (word : Bytes) (number : ℕ) → number_of numbers word ≡ Some number → (number < length words) × (get_or words number [] ≡ word)
-  pub known : (number : ℕ) → number < length words → number_of numbers (get_or words number []) ≡ Some number
+-- the table has for each word, and for nothing else, a key, and the places have for the key the word's place in the list
+pub record AreNumbered (keys : List (Vec ℕ Global × ℕ)) (places : List ℕ) (words : List Bytes) : Type 0 where
+  pub within : Each (λ (number : ℕ). number < length words) places
+  pub found : (word : Bytes) (key : ℕ) → key_of keys word ≡ Some key → (key < length places) × (get_or words (get_or places key 0) [] ≡ word)
+  pub known : (number : ℕ) → number < length words → (key : ℕ) × (key_of keys (get_or words number []) ≡ Some key) × (get_or places key 0 ≡ number)
 
 -- the new list begins with the old one
 pub record Extends (old new : List Bytes) : Type 0 where

@@ -5,7 +5,7 @@ use Rattle.taxonomy.specs.declared.numbered.NumberedGroup.{NumberedGroup}
 use Rattle.taxonomy.specs.declared.runs.Run.{Run}
 pub use Rattle.taxonomy.specs.declared.starts.Piece.{Piece}
 use Rattle.taxonomy.specs.declared.starts.Reach.{Reach}
-use Rattle.taxonomy.specs.Graph.{Sets, set_of}
+use Rattle.taxonomy.specs.Graph.{Sets, at_or_below}
 use Rattle.taxonomy.specs.Runs.{has}
 
 abbrev pub as_piece : ℕ → Run → Piece
@@ -22,9 +22,9 @@ in_piece number piece = nat_le piece.start number && nat_lt number piece.end
 abbrev pub HasPiece : List Piece → ℕ → ℕ → Type 0
 HasPiece pieces label number = (piece : Piece) × Contains pieces piece × (piece.label ≡ label) × (in_piece number piece ≡ true)
 
--- the pieces have what the sets of the words have, each with the word as its label
+-- the pieces have the words and what their sets have, each with the word as its label
 abbrev pub ArePieces : Sets → List ℕ → List Piece → Type 0
-ArePieces sets words pieces = Each (λ (label : ℕ). (number : ℕ) → has (set_of sets label) number ≡ true → HasPiece pieces label number) words
+ArePieces sets words pieces = Each (λ (label : ℕ). (number : ℕ) → has (at_or_below sets label) number ≡ true → HasPiece pieces label number) words
 
 -- the pieces reach no further
 abbrev pub Reaches : Reach → List Piece → Type 0
@@ -40,15 +40,15 @@ pub record IsTwice (pieces : List Piece) (number : ℕ) : Type 0 where
   pub in_one : in_piece number one ≡ true
   pub in_other : in_piece number other ≡ true
 
--- the sets of two different words have the number
+-- two different words, or their sets, have the number
 pub record IsShared (sets : Sets) (words : List ℕ) (number : ℕ) : Type 0 where
   pub one : ℕ
   pub other : ℕ
   pub has_one : Contains words one
   pub has_other : Contains words other
   pub apart : one ≢ other
-  pub in_one : has (set_of sets one) number ≡ true
-  pub in_other : has (set_of sets other) number ≡ true
+  pub in_one : has (at_or_below sets one) number ≡ true
+  pub in_other : has (at_or_below sets other) number ≡ true
 
 -- no number starts later than before
 abbrev pub AreLowered : List ℕ → List ℕ → Type 0

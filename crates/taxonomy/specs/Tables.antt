@@ -62,7 +62,7 @@ shown tables = shown_as tables.names.words.items tables.links.items tables.group
 abbrev pub word_at : Tables → ℕ → Bytes
 word_at tables number = word tables.names.words.items number
 
--- the sets are those that paths of the kind's links give
+-- the sets are those that one or more links of the kind give
 pub record AreSets (kind : ChainKind) (count : ℕ) (links : List NumberedLink) (sets : List (List Run)) : Type 0 where
   pub edges : List Edge
   pub are : AreEdges kind links edges
@@ -83,13 +83,13 @@ pub record AreSelfStarts (count : ℕ) (links : List NumberedLink) (groups : Lis
 
 -- what the tables hold goes together
 pub record AreTables (tables : Tables) : Type 0 where
-  pub numbered : AreNumbered tables.names.numbers.entries tables.names.words.items
+  pub numbered : AreNumbered tables.names.keys.entries tables.names.places.items tables.names.words.items
   pub links : LinksWithin (length tables.names.words.items) tables.links.items
   pub groups : GroupsWithin (length tables.names.words.items) tables.groups.items
   pub rows : AreRows tables.names.words.items tables.links.items tables.rows.items
   pub classes : AreSets kinds.Class (length tables.names.words.items) tables.links.items tables.classes.items
   pub relations : AreSets kinds.Relation (length tables.names.words.items) tables.links.items tables.relations.items
-  pub starts : AreSelfStarts (length tables.names.words.items) tables.links.items tables.groups.items tables.starts.items
+  pub starts : 0 < length tables.starts.items → AreSelfStarts (length tables.names.words.items) tables.links.items tables.groups.items tables.starts.items
 
 -- a number other than the one that is left out
 abbrev pub IsOther : Option ℕ → ℕ → Type 0

@@ -7,6 +7,7 @@ mod laws;
 mod names;
 mod numbered;
 mod order;
+mod reorder;
 mod runs;
 mod starts;
 mod tables;

@@ -33,8 +33,8 @@ fn add_link(
     links: &mut Vec<NumberedLink>,
     form: &Located,
 ) -> Result<(), NoMemory>
-    requires { AreNumbered names.old.numbers.entries names.old.words.items }
-    ensures numbered { OnOk result (AreNumbered names.new.numbers.entries names.new.words.items) }
+    requires { AreNumbered names.old.keys.entries names.old.places.items names.old.words.items }
+    ensures numbered { OnOk result (AreNumbered names.new.keys.entries names.new.places.items names.new.words.items) }
     ensures added { OnOk result (AddsLink form.now names.old.words.items names.new.words.items links.old.items links.new.items) }
 {
     let Some(found) = link_in(form) else {
@@ -57,8 +57,8 @@ pub fn numbered_links(
     names: &mut Names,
     forms: &[Located],
 ) -> Result<Vec<NumberedLink>, NoMemory>
-    requires { AreNumbered names.old.numbers.entries names.old.words.items }
-    ensures numbered { OnOk result (AreNumbered names.new.numbers.entries names.new.words.items) }
+    requires { AreNumbered names.old.keys.entries names.old.places.items names.old.words.items }
+    ensures numbered { OnOk result (AreNumbered names.new.keys.entries names.new.places.items names.new.words.items) }
     ensures extends { OnOk result (Extends names.old.words.items names.new.words.items) }
     ensures links { IfOk result (λ links. AreLinks forms.now names.new.words.items links.items) }
 {
@@ -76,8 +76,8 @@ fn add_word(
     numbers: &mut Listed<usize>,
     part: &Form,
 ) -> Result<(), NoMemory>
-    requires { AreNumbered names.old.numbers.entries names.old.words.items }
-    ensures numbered { OnOk result (AreNumbered names.new.numbers.entries names.new.words.items) }
+    requires { AreNumbered names.old.keys.entries names.old.places.items names.old.words.items }
+    ensures numbered { OnOk result (AreNumbered names.new.keys.entries names.new.places.items names.new.words.items) }
     ensures added { OnOk result (AddsWord part.now names.old.words.items names.new.words.items numbers.old numbers.new) }
 {
     let Some(text) = word_of(part) else {
@@ -94,8 +94,8 @@ fn numbered_words(
     names: &mut Names,
     parts: &[Form],
 ) -> Result<Listed<usize>, NoMemory>
-    requires { AreNumbered names.old.numbers.entries names.old.words.items }
-    ensures numbered { OnOk result (AreNumbered names.new.numbers.entries names.new.words.items) }
+    requires { AreNumbered names.old.keys.entries names.old.places.items names.old.words.items }
+    ensures numbered { OnOk result (AreNumbered names.new.keys.entries names.new.places.items names.new.words.items) }
     ensures extends { OnOk result (Extends names.old.words.items names.new.words.items) }
     ensures words { IfOk result (λ numbers. AreWords parts.now names.new.words.items numbers) }
 {
@@ -113,8 +113,8 @@ fn add_group(
     groups: &mut Vec<NumberedGroup>,
     form: &Located,
 ) -> Result<(), NoMemory>
-    requires { AreNumbered names.old.numbers.entries names.old.words.items }
-    ensures numbered { OnOk result (AreNumbered names.new.numbers.entries names.new.words.items) }
+    requires { AreNumbered names.old.keys.entries names.old.places.items names.old.words.items }
+    ensures numbered { OnOk result (AreNumbered names.new.keys.entries names.new.places.items names.new.words.items) }
     ensures added { OnOk result (AddsGroup form.now names.old.words.items names.new.words.items groups.old.items groups.new.items) }
 {
     let Some(parts) = disjoint_in(form) else {
@@ -134,8 +134,8 @@ pub fn numbered_groups(
     names: &mut Names,
     forms: &[Located],
 ) -> Result<Vec<NumberedGroup>, NoMemory>
-    requires { AreNumbered names.old.numbers.entries names.old.words.items }
-    ensures numbered { OnOk result (AreNumbered names.new.numbers.entries names.new.words.items) }
+    requires { AreNumbered names.old.keys.entries names.old.places.items names.old.words.items }
+    ensures numbered { OnOk result (AreNumbered names.new.keys.entries names.new.places.items names.new.words.items) }
     ensures extends { OnOk result (Extends names.old.words.items names.new.words.items) }
     ensures groups { IfOk result (λ groups. AreGroups forms.now names.new.words.items groups.items) }
 {

@@ -126,8 +126,8 @@ fn comes_first(first: &[Run], at_first: usize, second: &[Run], at_second: usize)
 }
 
 /// The numbers of both sets.
-pub fn union(alloc: Global, first: &[Run], second: &[Run]) -> Result<Runs, NoMemory>
-    ensures { IfOk result (λ both. spec.IsUnion both first.now second.now) }
+fn union(alloc: Global, first: &[Run], second: &[Run]) -> Result<Vec<Run>, NoMemory>
+    ensures { IfOk result (λ both. spec.IsUnion both.items first.now second.now) }
 {
     let mut both = Vec::new(alloc);
     let mut at_first = 0;
@@ -141,5 +141,38 @@ pub fn union(alloc: Global, first: &[Run], second: &[Run]) -> Result<Runs, NoMem
             at_second += 1;
         }
     }
-    Ok(Listed::of(both))
+    Ok(both)
+}
+
+/// Whether no run of the second set starts before the last one of the first.
+fn is_behind(first: &[Run], second: &[Run]) -> bool {
+    let Some(last) = first.last() else {
+        return true;
+    };
+    match second.first() {
+        Some(run) => last.start <= run.start,
+        None => true,
+    }
+}
+
+/// Adds the runs last.
+fn append(runs: &mut Vec<Run>, more: &[Run]) -> Result<(), NoMemory>
+    ensures { OnOk result (spec.IsUnion runs.new.items runs.old.items more.now) }
+{
+    for run in more {
+        add(runs, *run)?;
+    }
+    Ok(())
+}
+
+/// The numbers of both sets. The first set's memory is used again where the second one's runs come last.
+pub fn join(alloc: Global, first: Vec<Run>, second: &[Run]) -> Result<Vec<Run>, NoMemory>
+    ensures { IfOk result (λ both. spec.IsUnion both.items first.items second.now) }
+{
+    if !is_behind(first.as_slice(), second) {
+        return union(alloc, first.as_slice(), second);
+    }
+    let mut both = first;
+    append(&mut both, second)?;
+    Ok(both)
 }

@@ -39,7 +39,7 @@ fn add_pieces(pieces: &mut Vec<Piece>, runs: &[Run], label: usize) -> Result<(),
     Ok(())
 }
 
-/// The sets of the group's words, in pieces.
+/// The group's words and their sets, in pieces.
 fn pieces_of(alloc: Global, sets: &[Runs], group: &[usize]) -> Result<Vec<Piece>, NoMemory>
     requires { numbered.AreBelow (length sets.now) group.now }
     ensures { IfOk result (λ pieces. spec.ArePieces sets.now group.now pieces.items) }
@@ -47,6 +47,11 @@ fn pieces_of(alloc: Global, sets: &[Runs], group: &[usize]) -> Result<Vec<Piece>
     let mut pieces = Vec::new(alloc);
     for label in group {
         let runs = sets[*label].items();
+        pieces.push(Piece {
+            start: *label,
+            end: *label + 1,
+            label: *label,
+        })?;
         add_pieces(&mut pieces, runs, *label)?;
     }
     Ok(pieces)
@@ -123,7 +128,7 @@ fn sweep(starts: &mut Vec<usize>, pieces: &[Piece], group: usize)
     }
 }
 
-/// The same for each number that is in the sets of two different words of the group.
+/// The same for each number that is at or below two different words of the group.
 fn add_group(
     alloc: Global,
     starts: &mut Vec<usize>,
@@ -150,7 +155,7 @@ fn latest(alloc: Global, count: usize, group: usize) -> Result<Vec<usize>, NoMem
     Ok(starts)
 }
 
-/// For each number the first group that may have two different words whose sets have it.
+/// For each number the first group that may have two different words at or above it.
 pub fn starts_of(
     alloc: Global,
     count: usize,

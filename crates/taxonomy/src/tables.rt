@@ -1,5 +1,5 @@
 //! What a taxonomy keeps: told links and disjoint words by numbers, what is told of each word, and the words below each word.
-ghost use Rattle.std.specs.Prelude.{◌≡◌, ◌<◌, ◌≤◌, ◌++◌, ◌∷◌, [], length, get_or, slice_set, IfOk, OnOk, MatchOption};
+ghost use Rattle.std.specs.Prelude.{◌≡◌, ◌<◌, ◌≤◌, ◌++◌, ◌∷◌, [], length, get_or, slice_set, Contains, IfOk, OnOk, MatchOption};
 ghost use Rattle.taxonomy.specs.Chains as chains;
 ghost use Rattle.taxonomy.specs.Disjoint as disjoint;
 ghost use Rattle.taxonomy.specs.Graph.{AreWithin};
@@ -8,10 +8,10 @@ ghost use Rattle.taxonomy.specs.Numbered as numbered;
 ghost use Rattle.taxonomy.specs.Tables as spec;
 ghost use Rattle.taxonomy.specs.declared.told.ChainKind.TheVariants as kinds;
 
-use crate::closure::{Edge, closure};
+use crate::closure::{Edge, closure, is_at_or_below};
 use crate::names::Names;
 use crate::numbered::{NumberedGroup, NumberedLink};
-use crate::runs::{Runs, has};
+use crate::runs::Runs;
 use crate::starts::starts_of;
 use crate::told::{ChainKind, Told};
 use kif_tree::{Place, Text};
@@ -26,11 +26,11 @@ pub struct Tables {
     pub groups: Vec<NumberedGroup>,
     /// For each word what the links tell of it.
     pub rows: Vec<Listed<Told>>,
-    /// For each word itself and the words from which chains of `subclass` lead to it.
+    /// For each word the words from which chains of `subclass` lead to it.
     pub classes: Vec<Runs>,
     /// The same with `subrelation`.
     pub relations: Vec<Runs>,
-    /// For each word a number of groups, none of which separates it from itself.
+    /// For each word a number of groups, none of which separates it from itself. Empty where there are no groups.
     pub starts: Vec<usize>,
 }
 
@@ -99,6 +99,10 @@ fn add_told(
 {
     let parent = words[link.high].copy(alloc)?;
     let row = &mut rows[link.low];
+    if row.items().is_empty() {
+        // most words have one
+        *row = Listed::of(Vec::with_capacity(alloc, 1)?);
+    }
     row.push(Told {
         kind: link.kind,
         parent,
@@ -123,7 +127,7 @@ pub fn rows_of(
     Ok(rows)
 }
 
-/// For each word the words from which links of the kind lead to it, and itself.
+/// For each word the words from which links of the kind lead to it.
 fn sets_of(
     alloc: Global,
     count: usize,
@@ -163,8 +167,11 @@ fn self_starts(
 ) -> Result<Vec<usize>, NoMemory>
     requires links { numbered.LinksWithin count links.now }
     requires groups { numbered.GroupsWithin count groups.now }
-    ensures { IfOk result (λ starts. spec.AreSelfStarts count links.now groups.now starts.items) }
+    ensures { IfOk result (λ starts. 0 < length starts.items → spec.AreSelfStarts count links.now groups.now starts.items) }
 {
+    if groups.is_empty() {
+        return Ok(Vec::new(alloc));
+    }
     let edges = upward_edges(alloc, count, links)?;
     let sets = closure(alloc, count, edges.as_slice())?;
     let starts = starts_of(alloc, count, sets.as_slice(), groups)?;
@@ -178,7 +185,7 @@ pub fn tables_of(
     links: Vec<NumberedLink>,
     groups: Vec<NumberedGroup>,
 ) -> Result<Tables, NoMemory>
-    requires names { AreNumbered names.numbers.entries names.words.items }
+    requires names { AreNumbered names.keys.entries names.places.items names.words.items }
     requires links { numbered.LinksWithin (length names.words.items) links.items }
     requires groups { numbered.GroupsWithin (length names.words.items) groups.items }
     ensures tables { IfOk result (λ tables. spec.AreTables tables) }
@@ -252,17 +259,17 @@ impl Tables {
         let Some(low) = self.names.number(word) else {
             return false;
         };
-        let sets = self.sets(kind);
-        has(sets[high].items(), low)
+        is_at_or_below(self.sets(kind), low, high)
     }
 
-    /// Whether a chain leads from the word to that of the number.
-    fn leads(&self, kind: ChainKind, low: &[u8], high: usize) -> bool
+    /// Whether a chain leads from the word of the first number to that of the second.
+    fn leads(&self, kind: ChainKind, low: usize, high: usize) -> bool
         requires tables { spec.AreTables self.now }
+        requires low { low < length self.now.names.words.items }
         requires high { high < length self.now.names.words.items }
-        ensures { spec.Tells result (chains.Chain (spec.shown self.now).links kind low.now (spec.word_at self.now high)) }
+        ensures { spec.Tells result (chains.Chain (spec.shown self.now).links kind (spec.word_at self.now low) (spec.word_at self.now high)) }
     {
-        for told in self.row(low) {
+        for told in self.rows[low].items() {
             if !is_same_kind(told.kind, kind) {
                 continue;
             }
@@ -278,32 +285,34 @@ impl Tables {
         requires { spec.AreTables self.now }
         ensures { spec.Tells result (chains.Chain (spec.shown self.now).links kind low.now high.now) }
     {
-        match self.names.number(high) {
-            Some(number) => self.leads(kind, low, number),
-            None => false,
-        }
+        let Some(low) = self.names.number(low) else {
+            return false;
+        };
+        let Some(high) = self.names.number(high) else {
+            return false;
+        };
+        self.leads(kind, low, high)
     }
 
-    /// Whether the word of the number is at or above the word.
-    fn is_at_or_above(&self, word: &[u8], number: usize) -> bool
+    /// Whether the word of the second number is at or above that of the first.
+    fn is_at_or_above(&self, low: usize, high: usize) -> bool
         requires tables { spec.AreTables self.now }
-        requires number { number < length self.now.names.words.items }
-        ensures { spec.Tells result (chains.IsAtOrAbove (spec.shown self.now).links word.now (spec.word_at self.now number)) }
+        requires low { low < length self.now.names.words.items }
+        requires high { high < length self.now.names.words.items }
+        ensures { spec.Tells result (chains.IsAtOrAbove (spec.shown self.now).links (spec.word_at self.now low) (spec.word_at self.now high)) }
     {
-        if word == self.names.words[number].bytes() {
+        if is_at_or_below(self.classes.as_slice(), low, high) {
             return true;
         }
-        if self.leads(ChainKind::Class, word, number) {
-            return true;
-        }
-        self.leads(ChainKind::Instance, word, number)
+        self.leads(ChainKind::Instance, low, high)
     }
 
-    /// A word of the group at or above the word, by its number, other than the one that is left out.
-    fn above(&self, group: &[usize], word: &[u8], but: Option<usize>) -> Option<usize>
+    /// A word of the group at or above the word, both by their numbers, other than the one that is left out.
+    fn above(&self, group: &[usize], word: usize, but: Option<usize>) -> Option<usize>
         requires tables { spec.AreTables self.now }
         requires group { numbered.AreBelow (length self.now.names.words.items) group.now }
-        ensures { MatchOption result (spec.NoneIsFound self.now group.now word.now but) (λ number. spec.IsFound self.now group.now word.now but number) }
+        requires word { word < length self.now.names.words.items }
+        ensures { MatchOption result (spec.NoneIsFound self.now group.now (spec.word_at self.now word) but) (λ number. spec.IsFound self.now group.now (spec.word_at self.now word) but number) }
     {
         for number in group {
             if !is_other(but, *number) {
@@ -316,11 +325,13 @@ impl Tables {
         None
     }
 
-    /// Whether two different words of the group are at or above the two words.
-    fn separates(&self, group: &NumberedGroup, first: &[u8], second: &[u8]) -> bool
+    /// Whether two different words of the group are at or above the words of the two numbers.
+    fn separates(&self, group: &NumberedGroup, first: usize, second: usize) -> bool
         requires tables { spec.AreTables self.now }
         requires group { numbered.AreBelow (length self.now.names.words.items) group.now.words }
-        ensures { spec.Tells result (disjoint.Separates (spec.shown self.now).links (numbered.named_group self.now.names.words.items group.now) first.now second.now) }
+        requires first { first < length self.now.names.words.items }
+        requires second { second < length self.now.names.words.items }
+        ensures { spec.Tells result (disjoint.Separates (spec.shown self.now).links (numbered.named_group self.now.names.words.items group.now) (spec.word_at self.now first) (spec.word_at self.now second)) }
     {
         let words = group.words.items();
         let Some(one) = self.above(words, first, None) else {
@@ -338,27 +349,24 @@ impl Tables {
         false
     }
 
-    /// How many groups may be left out for the two words.
-    fn start(&self, first: &[u8], second: &[u8]) -> usize
-        requires { spec.AreTables self.now }
-        ensures { spec.NoneSeparates self.now result first.now second.now }
+    /// How many groups may be left out for the words of the two numbers.
+    fn start(&self, first: usize, second: usize) -> usize
+        requires tables { spec.AreTables self.now }
+        requires first { first < length self.now.names.words.items }
+        ensures { spec.NoneSeparates self.now result (spec.word_at self.now first) (spec.word_at self.now second) }
     {
-        if first != second {
+        if first != second || first >= self.starts.len() {
             return 0;
         }
-        let Some(number) = self.names.number(first) else {
-            return self.groups.len();
-        };
-        if number >= self.starts.len() {
-            return 0;
-        }
-        self.starts[number]
+        self.starts[first]
     }
 
-    /// The place of the first group that separates the two words.
-    pub fn are_disjoint(&self, first: &[u8], second: &[u8]) -> Option<Place>
-        requires { spec.AreTables self.now }
-        ensures { MatchOption result (disjoint.AreNotDisjoint (spec.shown self.now) first.now second.now) (λ place. disjoint.AreDisjointBy (spec.shown self.now) first.now second.now place) }
+    /// The place of the first group that separates the words of the two numbers.
+    fn first_group(&self, first: usize, second: usize) -> Option<Place>
+        requires tables { spec.AreTables self.now }
+        requires first { first < length self.now.names.words.items }
+        requires second { second < length self.now.names.words.items }
+        ensures { MatchOption result (disjoint.AreNotDisjoint (spec.shown self.now) (spec.word_at self.now first) (spec.word_at self.now second)) (λ place. disjoint.AreDisjointBy (spec.shown self.now) (spec.word_at self.now first) (spec.word_at self.now second) place) }
     {
         let mut at = self.start(first, second);
         while at < self.groups.len() {
@@ -369,5 +377,32 @@ impl Tables {
             at += 1;
         }
         None
+    }
+
+    /// The number of the second word, if it has one, where that of the first is known.
+    fn other_number(&self, one: usize, first: &[u8], second: &[u8]) -> Option<usize>
+        requires tables { spec.AreTables self.now }
+        requires one { one < length self.now.names.words.items }
+        requires first { spec.word_at self.now one ≡ first.now }
+        ensures { MatchOption result (Contains self.now.names.words.items second.now → ⊥) (λ number. (number < length self.now.names.words.items) × (spec.word_at self.now number ≡ second.now)) }
+    {
+        if first == second {
+            return Some(one);
+        }
+        self.names.number(second)
+    }
+
+    /// The place of the first group that separates the two words.
+    pub fn are_disjoint(&self, first: &[u8], second: &[u8]) -> Option<Place>
+        requires { spec.AreTables self.now }
+        ensures { MatchOption result (disjoint.AreNotDisjoint (spec.shown self.now) first.now second.now) (λ place. disjoint.AreDisjointBy (spec.shown self.now) first.now second.now place) }
+    {
+        let Some(one) = self.names.number(first) else {
+            return None;
+        };
+        let Some(other) = self.other_number(one, first, second) else {
+            return None;
+        };
+        self.first_group(one, other)
     }
 }

@@ -1,16 +1,19 @@
 //! Told forms with the chains that they make.
-ghost use Rattle.std.specs.Prelude.{◌≡◌, ◌↔◌, IfOk, IsTrue, MatchOption};
+ghost use Rattle.std.specs.Prelude.{◌≡◌, ◌↔◌, length, IfOk, OnOk, IsTrue, MatchOption};
 ghost use Rattle.taxonomy.specs.Chains.{Chain, parents};
 ghost use Rattle.taxonomy.specs.Disjoint.{AreDisjointBy, AreNotDisjoint};
 ghost use Rattle.taxonomy.specs.Names.{AreNumbered};
+ghost use Rattle.taxonomy.specs.Numbered.{LinksWithin};
+ghost use Rattle.taxonomy.specs.Reorder.{AreMoved};
 ghost use Rattle.taxonomy.specs.Told.{told_taxonomy};
 
 use crate::names::Names;
-use crate::numbered::{numbered_groups, numbered_links};
+use crate::numbered::{NumberedLink, numbered_groups, numbered_links};
 use crate::order::lowest_first;
+use crate::reorder::{moved_links, places_of};
 use crate::tables::{Tables, edges_of, tables_of};
 use crate::told::{ChainKind, Told};
-use kif_tree::{Located, Place, Text};
+use kif_tree::{Located, Place};
 use sigma_base::NoMemory;
 use std::alloc::Global;
 use std::marker::Model;
@@ -32,37 +35,30 @@ impl Model for Taxonomy {
     ghost invariant = { λ taxonomy. AreTables taxonomy.tables };
 }
 
-/// The words of the links, each behind those below it where no cycle forbids it. Those that are instances alone come before all others.
-fn ordered_names(alloc: Global, forms: &[Located]) -> Result<Names, NoMemory>
-    ensures { IfOk result (λ names. AreNumbered names.numbers.entries names.words.items) }
-{
-    let mut names = Names::new(alloc);
-    let links = numbered_links(alloc, &mut names, forms)?;
-    let mut edges = edges_of(alloc, links.as_slice(), ChainKind::Class)?;
-    let relations = edges_of(alloc, links.as_slice(), ChainKind::Relation)?;
+/// The numbers of the words, each behind those below it where no cycle forbids it. Those that are instances alone come before all others.
+fn order_of(alloc: Global, count: usize, links: &[NumberedLink]) -> Result<Vec<usize>, NoMemory> {
+    let mut edges = edges_of(alloc, links, ChainKind::Class)?;
+    let relations = edges_of(alloc, links, ChainKind::Relation)?;
     edges.extend_from_slice(relations.as_slice())?;
-    let instances = edges_of(alloc, links.as_slice(), ChainKind::Instance)?;
-    let order = lowest_first(
-        alloc,
-        names.words.len(),
-        edges.as_slice(),
-        instances.as_slice(),
-    )?;
-    names_in_order(alloc, names.words.as_slice(), order.as_slice())
+    let instances = edges_of(alloc, links, ChainKind::Instance)?;
+    lowest_first(alloc, count, edges.as_slice(), instances.as_slice())
 }
 
-/// The words of these numbers, numbered anew in this order.
-fn names_in_order(alloc: Global, words: &[Text], order: &[usize]) -> Result<Names, NoMemory>
-    ensures { IfOk result (λ names. AreNumbered names.numbers.entries names.words.items) }
+/// Numbers the words anew, in that order.
+fn reorder(alloc: Global, names: &mut Names, links: &mut Vec<NumberedLink>) -> Result<(), NoMemory>
+    requires names { AreNumbered names.old.keys.entries names.old.places.items names.old.words.items }
+    requires links { LinksWithin (length names.old.words.items) links.old.items }
+    ensures numbered { OnOk result (AreNumbered names.new.keys.entries names.new.places.items names.new.words.items) }
+    ensures moved { OnOk result (AreMoved names.old.words.items names.new.words.items links.old.items links.new.items) }
 {
-    let mut names = Names::with_room(alloc, words.len())?;
-    for number in order {
-        let Some(word) = words.get(*number) else {
-            continue;
-        };
-        names.add(alloc, word.bytes())?;
-    }
-    Ok(names)
+    let count = names.words.len();
+    let order = order_of(alloc, count, links.as_slice())?;
+    let Some(places) = places_of(alloc, count, order.as_slice())? else {
+        return Ok(());
+    };
+    names.renumber(alloc, order.as_slice(), places.as_slice())?;
+    *links = moved_links(alloc, links.as_slice(), places.as_slice())?;
+    Ok(())
 }
 
 impl Taxonomy {
@@ -71,8 +67,9 @@ impl Taxonomy {
     pub fn of(alloc: Global, forms: &[Located]) -> Result<Taxonomy, NoMemory>
         ensures { IfOk result (λ taxonomy. taxonomy ≡ told_taxonomy forms.now) }
     {
-        let mut names = ordered_names(alloc, forms)?;
-        let links = numbered_links(alloc, &mut names, forms)?;
+        let mut names = Names::new(alloc);
+        let mut links = numbered_links(alloc, &mut names, forms)?;
+        reorder(alloc, &mut names, &mut links)?;
         let groups = numbered_groups(alloc, &mut names, forms)?;
         let tables = tables_of(alloc, names, links, groups)?;
         Ok(Taxonomy { tables })

@@ -1,0 +1,4 @@
+pub mod GatherLaws
+pub mod GuardingLaws
+pub mod WalkLaws
+pub mod WantedLaws

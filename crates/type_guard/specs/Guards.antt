@@ -14,17 +14,23 @@ use Rattle.type_guard.specs.Occurrences.{Occurrence, occurrences}
 abbrev pub pair : Bytes → Form → Bytes → Form
 pair head variable class = form.List (form.Word head ∷ variable ∷ form.Word class ∷ [])
 
+abbrev pub head_of : TypeTold → Bytes
+head_of type = if type.subclass then codes "subclass" else codes "instance"
+
 -- `(instance ?X C)` or `(subclass ?X C)`
 abbrev pub guard_of : Form → TypeTold → Form
-guard_of variable type = pair (if type.subclass then codes "subclass" else codes "instance") variable type.class
+guard_of variable type = pair (head_of type) variable type.class
 
 abbrev pub is_entity : TypeTold → Bool
 is_entity type = bytes_eq type.class (codes "Entity")
 
--- a guard for each type of the argument, but for `Entity`
+-- a guard for each type, but for `Entity`
+abbrev pub guards_for : Form → List TypeTold → List Form
+guards_for variable types = map (guard_of variable) (filter (λ (type : TypeTold). not (is_entity type)) types)
+
+-- the guards for the types of the argument
 abbrev pub guards_at : Signatures → Occurrence → List Form
-guards_at signatures occurrence =
-    map (guard_of occurrence.variable) (filter (λ (type : TypeTold). not (is_entity type)) (types_in signatures occurrence.head occurrence.argument))
+guards_at signatures occurrence = guards_for occurrence.variable (types_in signatures occurrence.head occurrence.argument)
 
 abbrev pub is_of : List Form → Occurrence → Bool
 is_of names occurrence = list_any (same occurrence.variable) names

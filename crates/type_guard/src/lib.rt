@@ -2,5 +2,9 @@
 #![tactic(auto)]
 
 mod guarding;
+mod guards;
+mod occurrences;
+#[cfg(test)]
+mod tests;
 
 pub use guarding::guard;

@@ -1,9 +1,13 @@
-use Rattle.std.proofs.Common.{◌++◌, map}
-use Rattle.diagnose.specs.Order.{diagnostic_of}
-use Rattle.diagnose.proofs.OrderLaws.{appends, all_moved}
+use Rattle.std.proofs.Common.{sym, ap, ◌∙◌}
+use Rattle.std.proofs.lemmas.Result.{on_ok_weaker}
+use Rattle.diagnose.specs.Order.{codes_ascend}
+use Rattle.diagnose.proofs.OrderLaws.{appends_all}
 use Rattle.diagnose.proofs.order.append_ordered.Goals as goal
 
-pub returns : goal.returns
-returns c = λ positions known.
-    appends c.args.forms.now c.args.positions.now c.args.place c.args.found.items c.args.list.now.items c.loop-rank.list.items c.in_ok-ranks.ranks positions known c.in_ok-ranks.ensures
-    (all_moved c.args.forms.now c.args.place c.loop-rank.ranks.keys c.loop-rank.list.items (c.args.list.now.items ++ map (diagnostic_of c.args.forms.now c.args.place) c.in_ok-ranks.ranks.keys) c.in_default.ensures.variant.1 c.loop-rank.invariant)
+pub returns-then-codes_ascend : goal.returns-then-codes_ascend
+returns-then-codes_ascend c =
+    on_ok_weaker c.append_all.result
+    (λ is positions known.
+    appends_all c.args.forms.now c.args.place c.args.found.items c.args.list.now.items c.append_all.new.list.items known
+    (ap (codes_ascend 0) (sym c.as_slice.ensures.value) ∙ sym c.codes_ascend.ensures ∙ c.if-codes_ascend.true) is)
+    c.append_all.ensures

@@ -35,15 +35,15 @@ three c =
 pub collect_list-returns-in_ok-collect-in-len3-clause-free :
     goal.collect_list-returns-in_ok-collect-in-len3-clause-free
 collect_list-returns-in_ok-collect-in-len3-clause-free t c =
-    free_of_quantifier c.leave.result c.args.parts.now c.head-item.result c.names-item.result c.body-item.result c.parts_in.result.now c.new-within.result c.collect.new.free c.args.free.now c.leave.new.free
-    (three c) (sym c.quantifies.ensures ∙ c.if-quantifies.true) c.parts_in.ensures c.new-within.ensures c.in_ok-collect-in-len3.ensures.free c.leave.ensures.free
+    free_of_quantifier c.leave.result c.args.parts.now c.head-item.result c.names-item.result c.body-item.result c.parts_of.result.now c.new-within.result c.collect.new.free c.args.free.now c.leave.new.free
+    (three c) (sym c.quantifies.ensures ∙ c.if-quantifies.true) c.parts_of.ensures c.new-within.ensures c.in_ok-collect-in-len3.ensures.free c.leave.ensures.free
 
 pub collect_list-returns-in_ok-collect-in-len3-clause-found :
     goal.collect_list-returns-in_ok-collect-in-len3-clause-found
 collect_list-returns-in_ok-collect-in-len3-clause-found t c =
-    unused_of_quantifier c.leave.result c.args.place c.args.parts.now c.head-item.result c.names-item.result c.body-item.result c.parts_in.result.now c.new-within.result c.collect.new.free
+    unused_of_quantifier c.leave.result c.args.place c.args.parts.now c.head-item.result c.names-item.result c.body-item.result c.parts_of.result.now c.new-within.result c.collect.new.free
     c.args.found.now.items c.collect.new.found.items c.leave.new.found.items
-    (three c) (sym c.quantifies.ensures ∙ c.if-quantifies.true) c.parts_in.ensures c.new-within.ensures c.in_ok-collect-in-len3.ensures.free c.in_ok-collect-in-len3.ensures.found c.leave.ensures.found
+    (three c) (sym c.quantifies.ensures ∙ c.if-quantifies.true) c.parts_of.ensures c.new-within.ensures c.in_ok-collect-in-len3.ensures.free c.in_ok-collect-in-len3.ensures.found c.leave.ensures.found
 
 -- a list that isn't a quantifier's
 unbound : {t : ℕ} → (c : goal.collect_list-After-collect_all t) → bound c.args.parts.now ≡ []

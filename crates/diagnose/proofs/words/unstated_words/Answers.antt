@@ -13,4 +13,4 @@ pub loop-name-preserved : goal.loop-name-preserved
 loop-name-preserved c =
     unstated_more (λ word. is_unstated (arity_in c.args.signatures.now word)) c.relations-name-items.result.now c.loop-name.name-index c.name-item.result c.bytes-in-loop-name.result.now c.loop-name.words c.add.new.self
     c.loop-name-test.true c.name-item.is c.bytes-in-loop-name.ensures
-    (ap (λ word. is_unstated (arity_in c.args.signatures.now word)) (c.bytes-in-loop-name.ensures ∙ sym c.bytes.ensures) ∙ sym (c.is_unstated.ensures ∙ ap is_unstated c.arity.ensures) ∙ c.if-not-is_unstated.false) c.loop-name.invariant c.in_ok-add.ensures
+    (ap (λ word. is_unstated (arity_in c.args.signatures.now word)) (c.bytes-in-loop-name.ensures ∙ sym c.bytes.ensures) ∙ sym (c.is_unstated.ensures ∙ ap is_unstated c.arity.ensures) ∙ c.if-not-is_unstated.false) c.loop-name.invariant c.in_ok-add.ensures.has

@@ -1,19 +1,15 @@
-use Rattle.std.proofs.Common.{◌<◌, ◌≤◌, List, length, subst, arith}
-use Rattle.std.proofs.lemmas.List.{take_all}
-use Rattle.taxonomy.specs.declared.numbered.NumberedGroup.{NumberedGroup}
 use Rattle.taxonomy.specs.Tables.{shown}
-use Rattle.taxonomy.proofs.ChainLaws.{NoneSeparates, first_disjoint, not_disjoint}
+use Rattle.taxonomy.proofs.ChainLaws.{not_disjoint, unknown_first, unknown_second}
 use Rattle.taxonomy.proofs.tables.Tables.are_disjoint.Goals as goal
 
-pub returns-then-separates : goal.returns-then-separates
-returns-then-separates c =
+pub returns-in_default : goal.returns-in_default
+returns-in_default c =
     let tables = c.args.self.now in
-    let within : c.loop-at.at < length tables.groups.items = omega (arith, c.loop-at-test.true, c.len.ensures, tables.groups.ok.0) in
-    first_disjoint (shown tables).links tables.names.words.items tables.groups.items c.loop-at.at c.index-group.result.now c.args.first.now c.args.second.now within c.index-group.ensures c.loop-at.invariant c.if-separates.ensures
-
-pub returns : goal.returns
-returns c =
-    let tables = c.args.self.now in
-    let all : length tables.groups.items ≤ c.loop-at.at = omega (arith, c.loop-at-test.false, c.len.ensures, tables.groups.ok.0) in
     not_disjoint (shown tables).links tables.names.words.items tables.groups.items c.args.first.now c.args.second.now
-    (subst (λ (groups : List NumberedGroup). NoneSeparates (shown tables).links tables.names.words.items groups c.args.first.now c.args.second.now) (take_all c.loop-at.at tables.groups.items all) c.loop-at.invariant)
+    (unknown_first tables.names.words.items tables.links.items tables.groups.items c.args.first.now c.args.second.now c.requires.links c.requires.groups c.in_default.ensures)
+
+pub returns-in_default-other_number : goal.returns-in_default-other_number
+returns-in_default-other_number c =
+    let tables = c.args.self.now in
+    not_disjoint (shown tables).links tables.names.words.items tables.groups.items c.args.first.now c.args.second.now
+    (unknown_second tables.names.words.items tables.links.items tables.groups.items c.args.first.now c.args.second.now c.requires.links c.requires.groups c.in_default-other_number.ensures)
