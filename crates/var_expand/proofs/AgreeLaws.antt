@@ -1,20 +1,17 @@
 -- Choices of some variables, and the whole choices that agree with them.
-use Rattle.std.proofs.Common.{◌≡◌, ℕ, ◌+◌, ◌<◌, ◌≤◌, ◌⊎◌, List, [], ◌∷◌, ◌++◌, map, filter, length, get_or, Bool, true, false, not, ◌&&◌, ◌||◌, if◌then◌else◌, Option, Some, None, is_some, refl, sym, ap, ap₂, subst, ◌∙◌, arith, inl, inr}
+use Rattle.std.proofs.Common.{◌≡◌, ◌⊎◌, List, [], ◌∷◌, ◌++◌, map, length, Bool, true, false, if◌then◌else◌, Option, Some, None, is_some, refl, sym, ap, subst, ◌∙◌, inl, inr}
 use Rattle.std.specs.Prelude.{codes}
 use Rattle.kif_tree.specs.declared.form.Form.{Form, out-Form}
 use Rattle.kif_tree.specs.declared.form.Form.TheVariants as form
 use Rattle.kif_tree.specs.declared.form.Form.TheOpen.{Form-F}
 use Rattle.kif_tree.specs.SameLaws.{same-Decides}
 use Rattle.kif_tree.specs.Terms.{Bytes, same}
-use Rattle.sigma_base.specs.Lists.{Each}
 use Rattle.taxonomy.specs.Told.{word_text, word_layer}
-use Rattle.var_expand.specs.Choices.{Setting, Choice, sets, options, options_layer, names, rows, beginnings, row_part, row_numbers, becomes_by, after, is_row}
+use Rattle.var_expand.specs.Choices.{Setting, Choice, sets, options, options_layer, beginnings, row_part, becomes_by, is_row}
 use Rattle.kif_tree.specs.Profile.{is_row_layer as row_layer}
-use Rattle.var_expand.specs.Chosen.{set_to, is_set, first_word}
-use Rattle.var_expand.specs.Search.{Has, IsDrawn, IsWhole, Agrees, IsHopeless, variable_of, relations_of, passes}
-use Rattle.var_expand.specs.declared.fitting.Problem.{Problem}
-use Rattle.var_expand.proofs.MemberLaws.{has_map, each_has}
-use Rattle.var_expand.proofs.WordLaws.{word_text-Word}
+use Rattle.var_expand.specs.Chosen.{set_to, is_set}
+use Rattle.var_expand.specs.Search.{Has, IsDrawn, Agrees, variable_of}
+use Rattle.var_expand.proofs.MemberLaws.{has_map}
 
 -- ---- what a longer choice sets
 

@@ -2,7 +2,7 @@
 use Rattle.std.proofs.Common.{◌≡◌, List, [], ◌∷◌, Bool, true, false, Option, Some, None, if◌then◌else◌, refl, sym, ap, ◌∙◌}
 use Rattle.kif_tree.specs.declared.form.Form.{Form}
 use Rattle.kif_tree.specs.Terms.{same}
-use Rattle.var_expand.specs.Choices.{Setting, Choice, becomes_by}
+use Rattle.var_expand.specs.Choices.{Choice, becomes_by}
 use Rattle.var_expand.specs.Chosen.{set_to}
 
 abbrev or_itself : Form → Option (List Form) → List Form

@@ -1,5 +1,5 @@
 -- Whether a chain leads, as the taxonomy's answer tells it.
-use Rattle.std.proofs.Common.{◌≡◌, Bool, true, false, List, refl, sym, ◌∙◌}
+use Rattle.std.proofs.Common.{◌≡◌, Bool, true, false, List, refl, sym}
 use Rattle.std.specs.Prelude.{◌↔◌, IsTrue}
 use Rattle.kif_tree.specs.Terms.{Bytes}
 use Rattle.taxonomy.specs.ChainDecision.{leads_by, leads_by-exact}

@@ -1,7 +1,7 @@
 -- The tests of a whole choice tell just whether it fits.
 use Rattle.std.proofs.Common.{◌≡◌, ℕ, ◌⊎◌, List, [], ◌∷◌, ◌++◌, map, filter, length, Bool, true, false, not, ◌&&◌, ◌||◌, nat_eq, nat_lt, if◌then◌else◌, Option, Some, None, refl, sym, ap, ap₂, subst, ◌∙◌, inl, inr}
 use Rattle.std.specs.Prelude.{◌↔◌, codes}
-use Rattle.std.specs.List.{list_any, list_all, flat_map}
+use Rattle.std.specs.List.{list_all, flat_map}
 use Rattle.std.specs.Str.{bytes_eq}
 use Rattle.std.proofs.lemmas.Slice.Eq.{bytes_eq-Decides}
 use Rattle.kif_tree.specs.declared.form.Form.{Form, out-Form, roll-Form, roll-out-Form}
@@ -15,7 +15,7 @@ use Rattle.signatures.specs.Tables.{arity_in}
 use Rattle.signatures.specs.declared.signatures.Signatures.{Signatures}
 use Rattle.signatures.specs.declared.told.Arity.{Arity}
 use Rattle.signatures.specs.declared.told.Arity.TheVariants.{Exactly, Any, Unstated}
-use Rattle.taxonomy.specs.ChainDecision.{leads_by, leads_by-exact}
+use Rattle.taxonomy.specs.ChainDecision.{leads_by-exact}
 use Rattle.taxonomy.specs.Chains.{Chain}
 use Rattle.taxonomy.specs.Told.{Link, word_text, word_layer, word_texts, text_before, kind_of}
 use Rattle.taxonomy.specs.declared.told.ChainKind.{ChainKind}
@@ -24,7 +24,7 @@ use Rattle.var_expand.specs.Choices.{Choice, becomes_by, after, predicate_variab
 use Rattle.var_expand.specs.Chosen.{first_word}
 use Rattle.var_expand.specs.Conditions.{conditions, conjuncts, antecedents, is_condition, is_one_of, is_word, IsMet, IsMetBy}
 use Rattle.var_expand.specs.Fitting.{Fits, counts_fit, arguments_fit, sentences_fit, has_count, head_takes, takes, varies, has_variable_head, is_application, becomes_term}
-use Rattle.var_expand.specs.Gathered.{Demand, is_as, if_applied, applied_below, kind_word, kind_by, kind_of_head, demand_by, demand_parts, demands, all_demands, relates}
+use Rattle.var_expand.specs.Gathered.{Demand, is_as, if_applied, applied_below, kind_word, kind_of_head, demand_by, demand_parts, demands, all_demands, relates}
 use Rattle.var_expand.specs.Search.{IsDrawn, takes_by, word_takes, count_passes, word_names, name_passes, words_lead, condition_passes, passes, relations_of}
 use Rattle.var_expand.specs.Problems.{IsProblem}
 use Rattle.var_expand.specs.Tested.{kind_leads, is_met_by, is_met, conditions_fit, fits_by}
@@ -90,6 +90,7 @@ fits_tells links signatures f choice = (there, back)
         let two = both (sentences_fit f choice) (conditions_fit links f choice && counts_fit signatures f choice) one.1 in
         let three = both (conditions_fit links f choice) (counts_fit signatures f choice) two.1 in
         record { counts = three.1; arguments = one.0; sentences = two.0; conditions = each_all (λ parts. is_met links (after choice parts)) (λ parts. IsMet links (after choice parts)) (λ parts h. met_by links (word_texts (after choice parts)) h) (conditions f) three.0 }
+
     back : Fits links signatures f choice → fits_by links signatures f choice ≡ true
     back fits = and_true _ _ fits.arguments (and_true _ _ fits.sentences (and_true _ _
         (all_each (λ parts. is_met links (after choice parts)) (λ parts. IsMet links (after choice parts)) (λ parts h. is_met_of links (word_texts (after choice parts)) h) (conditions f) fits.conditions) fits.counts))
@@ -249,11 +250,11 @@ condition_exact relations links choice drawn demand =
     let low = becomes_by choice demand.low in
     let high = becomes_by choice demand.high in
     let texts : word_texts (low ++ (high ++ [])) ≡ text_before (first_word low) (text_before (first_word high) (Some [])) =
-        texts_shaped low (high ++ []) (shaped_of relations choice demand.low drawn) ∙ ap (text_before (first_word low)) (texts_shaped high [] (shaped_of relations choice demand.high drawn)) in
+    texts_shaped low (high ++ []) (shaped_of relations choice demand.low drawn) ∙ ap (text_before (first_word low)) (texts_shaped high [] (shaped_of relations choice demand.high drawn)) in
     leads_exact links demand (first_word low) (first_word high)
     ∙ sym (ap (λ b. is_met_by links (word_texts (b ++ (low ++ (high ++ []))))) (word_stays relations choice head (kind_word demand.kind) drawn (word_text-Word (kind_word demand.kind)))
-      ∙ ap (λ word. is_met_by links (text_before word (word_texts (low ++ (high ++ []))))) (word_text-Word (kind_word demand.kind))
-      ∙ ap (λ rest. is_met_by links (text_before (Some (kind_word demand.kind)) rest)) texts)
+    ∙ ap (λ word. is_met_by links (text_before word (word_texts (low ++ (high ++ []))))) (word_text-Word (kind_word demand.kind))
+    ∙ ap (λ rest. is_met_by links (text_before (Some (kind_word demand.kind)) rest)) texts)
 
 -- what a list demands is the condition that it is
 
@@ -314,8 +315,8 @@ pub conditions_exact : (relations : List Bytes) (links : List Link) (f : Form) (
 conditions_exact relations links f choice drawn =
     let all = all_demands (predicate_variables f) f in
     let is : map demand_parts all ≡ conditions f =
-        ap (map demand_parts) (sym (flat_map-flat_map (λ part. demands (predicate_variables f) (parts_in part)) conjuncts (antecedents (parts_in f))))
-        ∙ demands_of (predicate_variables f) (flat_map conjuncts (antecedents (parts_in f))) in
+    ap (map demand_parts) (sym (flat_map-flat_map (λ part. demands (predicate_variables f) (parts_in part)) conjuncts (antecedents (parts_in f))))
+    ∙ demands_of (predicate_variables f) (flat_map conjuncts (antecedents (parts_in f))) in
     all_alike (condition_passes links false choice) (λ demand. is_met links (after choice (demand_parts demand))) (condition_exact relations links choice drawn) all
     ∙ sym (all_map (λ parts. is_met links (after choice parts)) demand_parts all)
     ∙ ap (list_all (λ parts. is_met links (after choice parts))) is

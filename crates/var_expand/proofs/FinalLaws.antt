@@ -1,8 +1,8 @@
 -- The variables of a form's problem, and its outcome.
-use Rattle.std.proofs.Common.{◌≡◌, ℕ, zero, suc, min, ◌<◌, ◌≤◌, ◌⊎◌, List, [], ◌∷◌, ◌++◌, map, filter, length, take, drop, Bool, true, false, not, ◌&&◌, ◌||◌, nat_lt, if◌then◌else◌, refl, sym, ap, ap₂, subst, ◌∙◌, arith, inl, inr}
+use Rattle.std.proofs.Common.{◌≡◌, ℕ, zero, suc, min, ◌≤◌, List, [], ◌∷◌, ◌++◌, map, filter, length, take, drop, Bool, true, false, not, ◌&&◌, ◌||◌, nat_lt, if◌then◌else◌, refl, sym, ap, ap₂, subst, ◌∙◌, arith}
 use Rattle.std.proofs.lemmas.Bool.Decides.{nat_tests}
 use Rattle.std.proofs.lemmas.List.{length-take, take_all}
-use Rattle.std.specs.List.{list_any, list_all, flat_map}
+use Rattle.std.specs.List.{list_any}
 use Rattle.kif_tree.specs.declared.form.Form.{Form, out-Form}
 use Rattle.kif_tree.specs.Names.{free, free_names, each_once}
 use Rattle.kif_tree.specs.declared.form.Form.TheOpen.{Form-F}
@@ -16,16 +16,16 @@ use Rattle.signatures.specs.declared.signatures.Signatures.{Signatures}
 use Rattle.taxonomy.specs.Told.{Link}
 use Rattle.var_expand.specs.Choices.{Choice, choices, chosen_for, predicate_variables, row_variables, is_variable, is_row, begins_with, heads_a_list, names}
 use Rattle.var_expand.specs.Expansion.{IsExpansion, outcome, variants_by, nothing_fits}
-use Rattle.var_expand.specs.Fitting.{varies, has_variable_head}
+use Rattle.var_expand.specs.Fitting.{varies}
 use Rattle.var_expand.specs.Offered.{Offered}
 use Rattle.var_expand.specs.Problems.{IsProblem, passing, answer, answer_by, is_predicate}
-use Rattle.var_expand.specs.Search.{Has, AreOffers, IsOffer, IsHopeless, IsBegun, AreDistinct, IsDrawn, offered, offered_variable, filled, fitting, passes, relations_of}
+use Rattle.var_expand.specs.Search.{AreOffers, IsOffer, IsHopeless, IsBegun, AreDistinct, offered, offered_variable, filled, fitting, passes, relations_of}
 use Rattle.var_expand.specs.Tested.{fits_by}
 use Rattle.var_expand.specs.declared.expanded.Expanded.{Expanded}
-use Rattle.var_expand.specs.declared.expanded.Expanded.TheVariants.{Variants, TooMany}
+use Rattle.var_expand.specs.declared.expanded.Expanded.TheVariants.{TooMany}
 use Rattle.var_expand.specs.declared.fitting.Problem.{Problem}
 use Rattle.var_expand.proofs.ExactLaws.{fits_tells, passes_exact}
-use Rattle.var_expand.proofs.GrowLaws.{IsFor, choices_for, hopeless_fitting, fitting_all}
+use Rattle.var_expand.proofs.GrowLaws.{choices_for, hopeless_fitting, fitting_all}
 use Rattle.var_expand.proofs.MemberLaws.{each_has, each_where, each_mapped, kept_alike, filled_nothing}
 
 -- ---- the variables that head a list, and the row variables
@@ -210,8 +210,8 @@ expansion_is links signatures f predicates rows problem expanded is first second
       test = fits_by links signatures f;
       tells = fits_tells links signatures f;
       is = e ∙ answer_outcome f predicates (passing problem) first
-        ∙ ap (outcome f) (kept_alike (passes problem false) (fits_by links signatures f) all
-            (each_where _ all (λ choice has. passes_exact problem f rows signatures links choice told (each_has _ all choice (choices_for (relations_of problem) problem.variables) has).drawn))
+          ∙ ap (outcome f) (kept_alike (passes problem false) (fits_by links signatures f) all
+          (each_where _ all (λ choice has. passes_exact problem f rows signatures links choice told (each_has _ all choice (choices_for (relations_of problem) problem.variables) has).drawn))
           ∙ ap₂ (λ names vs. filter (fits_by links signatures f) (choices names vs)) relations variables);
     }
 

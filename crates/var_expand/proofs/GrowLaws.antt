@@ -1,5 +1,5 @@
 -- The choices that fit and begin so, by what the next variable becomes.
-use Rattle.std.proofs.Common.{◌≡◌, ℕ, ◌+◌, ◌<◌, ◌≤◌, ◌⊎◌, List, [], ◌∷◌, ◌++◌, map, filter, length, Bool, true, false, not, ◌||◌, if◌then◌else◌, Option, Some, None, is_some, refl, sym, ap, ap₂, subst, ◌∙◌, arith, inl, inr, append_assoc}
+use Rattle.std.proofs.Common.{◌≡◌, List, [], ◌∷◌, ◌++◌, map, filter, Bool, true, false, ◌||◌, if◌then◌else◌, Option, Some, None, refl, sym, ap, ap₂, subst, ◌∙◌, append_assoc}
 use Rattle.std.specs.List.{list_any, flat_map}
 use Rattle.std.proofs.lemmas.List.{map-append}
 use Rattle.kif_tree.specs.declared.form.Form.{Form}
@@ -7,14 +7,14 @@ use Rattle.kif_tree.specs.SameLaws.{same-Decides}
 use Rattle.kif_tree.specs.Terms.{Bytes, same}
 use Rattle.sigma_base.specs.Lists.{Each}
 use Rattle.var_expand.specs.Choices.{Setting, Choice, sets, options, choices, becomes_by}
-use Rattle.var_expand.specs.Chosen.{set_to, is_set}
+use Rattle.var_expand.specs.Chosen.{set_to}
 use Rattle.var_expand.specs.Offered.{Offered}
 use Rattle.var_expand.specs.Search.{Has, IsDrawn, IsWhole, Agrees, IsHopeless, IsOffer, IsBegun, AreDistinct, keeps, fitting, variable_of, relations_of, passes}
 use Rattle.var_expand.specs.declared.fitting.Problem.{Problem}
 use Rattle.var_expand.proofs.AgreeLaws.{agrees_longer, agrees_more, agrees_none}
 use Rattle.var_expand.proofs.GatherLaws.{filter-append}
 use Rattle.var_expand.proofs.MemberLaws.{each_has, each_where, each_mapped, each_joined, each_flat, none_kept, only_kept, append_none}
-use Rattle.var_expand.proofs.SoundLaws.{by_test, unset_is, hopeless_now}
+use Rattle.var_expand.proofs.SoundLaws.{hopeless_now}
 
 -- ---- all choices for some variables are drawn, one for each
 
@@ -26,10 +26,10 @@ pub choices_for : (relations : List Bytes) (variables : List Form) → Each (IsF
 choices_for relations [] = (record { covers = refl; drawn = tt }, tt)
 choices_for relations (v ∷ vs) = each_flat (IsFor relations (v ∷ vs)) (λ b. map (λ choice. sets v b ∷ choice) (choices relations vs)) (options relations v)
     (each_where (λ b. Each (IsFor relations (v ∷ vs)) (map (λ choice. sets v b ∷ choice) (choices relations vs))) (options relations v)
-      (λ b has. each_mapped (IsFor relations (v ∷ vs)) (λ choice. sets v b ∷ choice) (choices relations vs)
-        (each_where (λ choice. IsFor relations (v ∷ vs) (sets v b ∷ choice)) (choices relations vs)
-          (λ choice h. let is = each_has (IsFor relations vs) (choices relations vs) choice (choices_for relations vs) h in
-            record { covers = ap (λ ys. v ∷ ys) is.covers; drawn = (has, is.drawn) }))))
+    (λ b has. each_mapped (IsFor relations (v ∷ vs)) (λ choice. sets v b ∷ choice) (choices relations vs)
+    (each_where (λ choice. IsFor relations (v ∷ vs) (sets v b ∷ choice)) (choices relations vs)
+    (λ choice h. let is = each_has (IsFor relations vs) (choices relations vs) choice (choices_for relations vs) h in
+    record { covers = ap (λ ys. v ∷ ys) is.covers; drawn = (has, is.drawn) }))))
 
 whole_of : (problem : Problem) (p : Choice) (vs : List Form) (choice : Choice) → IsBegun problem p vs → IsFor (relations_of problem) vs choice → IsWhole problem (p ++ choice)
 whole_of problem p vs choice begun is = record {
@@ -41,8 +41,8 @@ whole_of problem p vs choice begun is = record {
 pub nothing_fits : (problem : Problem) (p q : Choice) (vs : List Form) → IsBegun problem p vs → IsHopeless problem q → ((choice : Choice) → Agrees q (p ++ choice)) → fitting problem p vs ≡ []
 nothing_fits problem p q vs begun hopeless agrees = none_kept (passes problem false) (map (λ choice. p ++ choice) (choices (relations_of problem) vs))
     (each_mapped (λ whole. passes problem false whole ≡ false) (λ choice. p ++ choice) (choices (relations_of problem) vs)
-      (each_where (λ choice. passes problem false (p ++ choice) ≡ false) (choices (relations_of problem) vs)
-        (λ choice h. hopeless.none (p ++ choice) (whole_of problem p vs choice begun (each_has (IsFor (relations_of problem) vs) (choices (relations_of problem) vs) choice (choices_for (relations_of problem) vs) h)) (agrees choice))))
+    (each_where (λ choice. passes problem false (p ++ choice) ≡ false) (choices (relations_of problem) vs)
+    (λ choice h. hopeless.none (p ++ choice) (whole_of problem p vs choice begun (each_has (IsFor (relations_of problem) vs) (choices (relations_of problem) vs) choice (choices_for (relations_of problem) vs) h)) (agrees choice))))
 
 pub hopeless_fitting : (problem : Problem) (p : Choice) (vs : List Form) → IsBegun problem p vs → IsHopeless problem p → fitting problem p vs ≡ []
 hopeless_fitting problem p vs begun hopeless = nothing_fits problem p p vs begun hopeless (λ choice. agrees_longer p choice)
@@ -108,7 +108,7 @@ left_out : (problem : Problem) (p : Choice) (v : Form) (b : List Form) (vs : Lis
     → keeps problem v b ≡ false → fitting problem (p ++ sets v b ∷ []) vs ≡ []
 left_out problem p v b vs begun has e = nothing_fits problem (p ++ sets v b ∷ []) (sets v b ∷ []) vs (begun_more problem p v b vs begun has) (hopeless_now problem (sets v b ∷ []) e)
     (λ choice. agrees_more [] ((p ++ sets v b ∷ []) ++ choice) v b (agrees_none _)
-      (ap (λ whole. becomes_by whole v) (append_assoc p (sets v b ∷ []) choice) ∙ set_last p v b choice (unset_before p v vs (subst AreDistinct (sym begun.covers) begun.distinct))))
+    (ap (λ whole. becomes_by whole v) (append_assoc p (sets v b ∷ []) choice) ∙ set_last p v b choice (unset_before p v vs (subst AreDistinct (sym begun.covers) begun.distinct))))
 
 -- the choices that fit, by what the next variable becomes
 pub fitting_next : (problem : Problem) (p : Choice) (offer : Offered) (vs : List Form) → IsBegun problem p (offer.variable ∷ vs) → IsOffer problem offer
@@ -116,7 +116,7 @@ pub fitting_next : (problem : Problem) (p : Choice) (offer : Offered) (vs : List
 fitting_next problem p offer vs begun is =
     ap (flat_map (λ b. fitting problem (p ++ sets offer.variable b ∷ []) vs)) is.allows
     ∙ only_kept (keeps problem offer.variable) (λ b. fitting problem (p ++ sets offer.variable b ∷ []) vs) (options (relations_of problem) offer.variable)
-        (each_where _ (options (relations_of problem) offer.variable) (λ b has. left_out problem p offer.variable b vs begun has))
+    (each_where _ (options (relations_of problem) offer.variable) (λ b has. left_out problem p offer.variable b vs begun has))
     ∙ sym (each_option problem p offer.variable (choices (relations_of problem) vs) (options (relations_of problem) offer.variable))
 
 -- nothing is left to choose

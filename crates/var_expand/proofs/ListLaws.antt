@@ -1,5 +1,5 @@
 -- Laws of lists.
-use Rattle.std.proofs.Common.{◌≡◌, ℕ, zero, suc, ◌+◌, ◌-◌, ◌<◌, ◌≤◌, List, [], ◌∷◌, ◌++◌, length, take, get_or, refl, ap, sym, ◌∙◌, arith, length-append, append_assoc, map}
+use Rattle.std.proofs.Common.{◌≡◌, ℕ, zero, suc, ◌+◌, ◌<◌, ◌≤◌, List, [], ◌∷◌, ◌++◌, length, take, get_or, refl, ap, sym, ◌∙◌, arith, length-append, append_assoc, map}
 use Rattle.std.proofs.lemmas.List.{take_all, map-append, length-map}
 use Rattle.var_expand.specs.Choices.{beginnings}
 use Rattle.std.specs.List.{flat_map}
@@ -43,7 +43,7 @@ begins_more (x ∷ xs) zero h = ap (λ ys. (x ∷ []) ∷ ys) (take_none (map (�
 begins_more (x ∷ xs) (suc i) h =
     let more = begins_more xs i (omega arith) in
     ap (λ ys. (x ∷ []) ∷ ys) (take_map (λ ys. x ∷ ys) (suc i) (beginnings xs) ∙ ap (map (λ ys. x ∷ ys)) more
-      ∙ map-append (λ ys. x ∷ ys) (take i (beginnings xs)) (take (suc i) xs ∷ []) ∙ ap (λ ys. ys ++ (x ∷ take (suc i) xs) ∷ []) (sym (take_map (λ ys. x ∷ ys) i (beginnings xs))))
+    ∙ map-append (λ ys. x ∷ ys) (take i (beginnings xs)) (take (suc i) xs ∷ []) ∙ ap (λ ys. ys ++ (x ∷ take (suc i) xs) ∷ []) (sym (take_map (λ ys. x ∷ ys) i (beginnings xs))))
 
 pub beginnings_more : {X : Type 0} (xs : List X) (i j : ℕ) → j ≡ i + 1 → i < length xs → take j (beginnings xs) ≡ take i (beginnings xs) ++ take j xs ∷ []
 beginnings_more xs i j e h = let is : j ≡ suc i = omega arith in

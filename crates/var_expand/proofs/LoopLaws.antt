@@ -9,7 +9,6 @@ use Rattle.var_expand.specs.Offered.{Offered}
 use Rattle.var_expand.specs.Search.{Has, AreOffers, IsOffer, IsBegun, keeps, offered_variable, filled, fitting, relations_of}
 use Rattle.var_expand.specs.declared.fitting.Problem.{Problem}
 use Rattle.var_expand.proofs.FinalLaws.{each_take, each_drop}
-use Rattle.var_expand.proofs.GatherLaws.{flat_map-append}
 use Rattle.var_expand.proofs.GrowLaws.{begun_more, fitting_next}
 use Rattle.var_expand.proofs.MemberLaws.{filled_twice, append_none}
 
@@ -65,8 +64,8 @@ grow_begun problem p q rest offer items i b same begun are le first is lt at =
     let offered : IsOffer problem offer = first_of_each (IsOffer problem) rest offer le first are in
     let has : Has offer.allowed b = subst (λ xs. Has xs b) is (has_get items i b lt at) in
     subst (λ x. IsBegun problem (x ++ sets offer.variable b ∷ []) (map offered_variable (rest_of rest))) (sym same)
-      (begun_more problem p offer.variable b (map offered_variable (rest_of rest)) (begun_at problem p rest offer le first begun)
-        (has_before (keeps problem offer.variable) (options (relations_of problem) offer.variable) b (subst (λ xs. Has xs b) offered.allows has)))
+    (begun_more problem p offer.variable b (map offered_variable (rest_of rest)) (begun_at problem p rest offer le first begun)
+    (has_before (keeps problem offer.variable) (options (relations_of problem) offer.variable) b (subst (λ xs. Has xs b) offered.allows has)))
 
 take_none : {X : Type 0} (xs : List X) → take 0 xs ≡ []
 take_none [] = refl
@@ -98,4 +97,4 @@ grow_end problem p rest offer items i old now begun are le first is long e =
     let f : List Form → List Choice = λ x. fitting problem (p ++ sets offer.variable x ∷ []) (map offered_variable (rest_of rest)) in
     e ∙ ap (λ xs. filled old (flat_map f xs)) (take_all i items long ∙ is)
     ∙ ap (filled old) (fitting_next problem p offer (map offered_variable (rest_of rest)) (begun_at problem p rest offer le first begun) offered
-      ∙ ap (fitting problem p) (sym (ap (map offered_variable) (split_list rest offer le first))))
+    ∙ ap (fitting problem p) (sym (ap (map offered_variable) (split_list rest offer le first))))

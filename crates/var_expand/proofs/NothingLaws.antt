@@ -3,12 +3,11 @@ use Rattle.std.proofs.Common.{◌≡◌, List, [], ◌∷◌, ◌++◌, map, fil
 use Rattle.std.specs.Prelude.{codes}
 use Rattle.std.specs.List.{list_any, list_all, flat_map}
 use Rattle.std.specs.Str.{bytes_eq}
-use Rattle.kif_tree.specs.declared.form.Form.{Form, out-Form}
+use Rattle.kif_tree.specs.declared.form.Form.{Form}
 use Rattle.kif_tree.specs.declared.form.Form.TheVariants as form
-use Rattle.kif_tree.specs.declared.form.Form.TheOpen.{Form-F}
 use Rattle.kif_tree.specs.CompoundLaws.{compounds_other}
 use Rattle.kif_tree.specs.FormLaws.{induction, fold-Row, fold-List}
-use Rattle.kif_tree.specs.NameLaws.{free-Word, free-Variable, free-Row, free-Numeral, free-Quoted, free-List}
+use Rattle.kif_tree.specs.NameLaws.{free-Word, free-Variable, free-Numeral, free-Quoted, free-List}
 use Rattle.kif_tree.specs.Names.{free, free_names, each_once, parts_in, parts_layer, bound, is_other}
 use Rattle.kif_tree.specs.Profile.{compounds, operands, without_first, lists_variables, is_row_layer, is_logical, begins}
 use Rattle.kif_tree.specs.Terms.{Bytes, same, clean, clean_step, has_no_row, after_head}
@@ -16,13 +15,12 @@ use Rattle.sigma_base.specs.Lists.{Each, each_filter}
 use Rattle.signatures.specs.Tables.{relations_in}
 use Rattle.signatures.specs.declared.signatures.Signatures.{Signatures}
 use Rattle.taxonomy.specs.Told.{Link}
-use Rattle.var_expand.specs.Choices.{Choice, choices, chosen_for, predicate_variables, row_variables, is_variable, is_row}
-use Rattle.var_expand.specs.Conditions.{conditions, conjuncts, antecedents, is_condition, is_side, is_word}
+use Rattle.var_expand.specs.Choices.{choices, predicate_variables, row_variables, is_variable, is_row}
+use Rattle.var_expand.specs.Conditions.{conditions, conjuncts, antecedents, is_condition, is_side}
 use Rattle.var_expand.specs.Expansion.{IsExpansion, outcome}
 use Rattle.var_expand.specs.Fitting.{varies, has_variable_head, arguments_fit, sentences_fit, counts_fit}
 use Rattle.var_expand.specs.Gathered.{if_varies, if_applied, applied_below, is_as}
 use Rattle.var_expand.specs.Problems.{is_predicate}
-use Rattle.var_expand.specs.Replacement.{replaced}
 use Rattle.var_expand.specs.Search.{name_passes, count_passes}
 use Rattle.var_expand.specs.Tested.{fits_by, conditions_fit}
 use Rattle.var_expand.specs.declared.expanded.Expanded.{Expanded}
@@ -70,7 +68,7 @@ rowless = induction (λ f. clean true f ≡ true → Each NoRow (free f)) (recor
   numeral = λ text e. subst (Each NoRow) (sym (free-Numeral text)) tt;
   quoted = λ text e. subst (Each NoRow) (sym (free-Quoted text)) tt;
   list = λ parts each e. subst (Each NoRow) (sym (free-List parts))
-    (each_filter NoRow (is_other (bound parts)) (flat_map free parts) (each_flat NoRow free parts (rowless_parts parts each (sym (clean-List parts) ∙ e))));
+      (each_filter NoRow (is_other (bound parts)) (flat_map free parts) (each_flat NoRow free parts (rowless_parts parts each (sym (clean-List parts) ∙ e))));
 })
 
 once_rowless : (names : List Form) → Each NoRow names → Each NoRow (each_once names)
@@ -153,7 +151,7 @@ bare_list parts each e =
     record {
       itself = no_head (form.List parts) parts (ap parts_layer (form.outs-List parts)) (still parts (nil_left (if_varies parts) _ none));
       inside = λ logical. applied_of logical parts ∙ ap₂ ◌++◌ (below_nothing logical parts (flat_nothing if_applied (operands parts) (each_itself (operands parts) all)))
-        (flat_nothing (λ part. flat_map (applied_below logical) (compounds part)) (operands parts) (each_inside logical (operands parts) all));
+          (flat_nothing (λ part. flat_map (applied_below logical) (compounds part)) (operands parts) (each_inside logical (operands parts) all));
     }
 
 bare : (f : Form) → filter varies (compounds f) ≡ [] → IsBare f
@@ -221,6 +219,6 @@ nothing_chosen links signatures f expanded e no_row is = record {
   test = fits_by links signatures f;
   tells = fits_tells links signatures f;
   is = is ∙ sym (ap (λ g. Variants (g ∷ [])) (replaced_nothing f))
-    ∙ sym (ap (λ b. outcome f (if b then [] ∷ [] else [])) (nothing_passes links signatures f e))
-    ∙ sym (ap (λ vs. outcome f (filter (fits_by links signatures f) (choices (relations_in signatures) vs))) (ap₂ ◌++◌ (no_predicates f e) (no_rows f no_row)));
+      ∙ sym (ap (λ b. outcome f (if b then [] ∷ [] else [])) (nothing_passes links signatures f e))
+      ∙ sym (ap (λ vs. outcome f (filter (fits_by links signatures f) (choices (relations_in signatures) vs))) (ap₂ ◌++◌ (no_predicates f e) (no_rows f no_row)));
 }

@@ -1,7 +1,7 @@
 -- A form after a choice, by its kind.
-use Rattle.std.proofs.Common.{◌≡◌, List, [], ◌∷◌, ◌++◌, map, filter, Bool, true, false, not, if◌then◌else◌, refl, sym, ap, ap₂, subst, ◌∙◌, length, arith}
+use Rattle.std.proofs.Common.{◌≡◌, List, [], ◌∷◌, ◌++◌, map, Bool, true, false, if◌then◌else◌, refl, sym, ap, ap₂, ◌∙◌, length, arith}
 use Rattle.std.specs.Prelude.{IfOk, Result, Ok, Err}
-use Rattle.std.specs.List.{flat_map, list_any}
+use Rattle.std.specs.List.{flat_map}
 use Rattle.sigma_base.specs.declared.memory.NoMemory.{NoMemory}
 use Rattle.kif_tree.specs.declared.form.Form.{Form, para-Form, para-roll-Form}
 use Rattle.kif_tree.specs.declared.form.Form.TheVariants as form
@@ -10,9 +10,9 @@ use Rattle.kif_tree.specs.FormLaws.{induction}
 use Rattle.kif_tree.specs.NameLaws.{beside_forms}
 use Rattle.kif_tree.specs.Names.{bound}
 use Rattle.kif_tree.specs.Shape.{is_name}
-use Rattle.kif_tree.specs.Terms.{Bytes, same}
+use Rattle.kif_tree.specs.Terms.{Bytes}
 use Rattle.sigma_base.specs.Lists.{Each}
-use Rattle.var_expand.specs.Choices.{Setting, Choice, becomes_by}
+use Rattle.var_expand.specs.Choices.{Choice, becomes_by}
 use Rattle.var_expand.specs.Replacement.{without, spliced, replaced_step, replaced}
 use Rattle.var_expand.specs.Spliced.{spliced_part}
 

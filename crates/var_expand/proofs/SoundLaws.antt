@@ -1,20 +1,19 @@
 -- A choice of some variables passes where a whole choice that agrees with it fits.
-use Rattle.std.proofs.Common.{◌≡◌, ℕ, ◌+◌, ◌<◌, ◌≤◌, ◌⊎◌, List, [], ◌∷◌, ◌++◌, map, filter, length, get_or, Bool, true, false, not, ◌&&◌, ◌||◌, nat_eq, nat_lt, if◌then◌else◌, Option, Some, None, is_some, refl, sym, ap, ap₂, subst, ◌∙◌, arith, inl, inr, length-append}
+use Rattle.std.proofs.Common.{◌≡◌, ℕ, ◌<◌, ◌≤◌, List, [], ◌∷◌, ◌++◌, length, get_or, Bool, true, false, not, ◌&&◌, ◌||◌, nat_eq, nat_lt, Option, Some, None, is_some, refl, sym, ap, ap₂, subst, ◌∙◌, arith, length-append}
 use Rattle.std.proofs.lemmas.Bool.Decides.{nat_tests}
-use Rattle.std.specs.List.{list_any, list_all, flat_map}
+use Rattle.std.specs.List.{list_all}
 use Rattle.kif_tree.specs.declared.form.Form.{Form}
-use Rattle.kif_tree.specs.Names.{is_function_word}
 use Rattle.kif_tree.specs.Terms.{Bytes}
 use Rattle.signatures.specs.Tables.{arity_in}
 use Rattle.signatures.specs.declared.signatures.Signatures.{Signatures}
 use Rattle.signatures.specs.declared.told.Arity.{Arity}
 use Rattle.signatures.specs.declared.told.Arity.TheVariants.{Exactly, Any, Unstated}
 use Rattle.taxonomy.specs.Told.{Link, word_text}
-use Rattle.var_expand.specs.Choices.{Setting, Choice, sets, options, becomes_by, after, is_row}
+use Rattle.var_expand.specs.Choices.{Choice, sets, options, becomes_by, after, is_row}
 use Rattle.var_expand.specs.Chosen.{set_to, is_set, first_word}
-use Rattle.var_expand.specs.Gathered.{Demand, is_as}
+use Rattle.var_expand.specs.Gathered.{Demand}
 use Rattle.var_expand.specs.Offered.{Offered}
-use Rattle.var_expand.specs.Search.{Has, IsDrawn, IsWhole, Agrees, IsHopeless, IsOffer, keeps, variable_of, relations_of, passes, has_room, takes_by, word_takes, count_passes, word_names, name_passes, words_lead, condition_passes}
+use Rattle.var_expand.specs.Search.{Has, IsDrawn, Agrees, IsHopeless, IsOffer, keeps, relations_of, passes, has_room, takes_by, word_takes, count_passes, word_names, name_passes, words_lead, condition_passes}
 use Rattle.var_expand.specs.declared.fitting.Problem.{Problem}
 use Rattle.var_expand.proofs.AgreeLaws.{agrees_more, agrees_none, IsShaped, shaped_of, word_stays, length_of, chosen_of}
 use Rattle.var_expand.proofs.ChoiceLaws.{becomes_unset}
@@ -109,7 +108,7 @@ count_sound : (relations : List Bytes) (signatures : Signatures) (p w : Choice) 
 count_sound relations signatures p w [] drawn agrees e = refl
 count_sound relations signatures p w (head ∷ arguments) drawn agrees e =
     word_takes_more signatures (first_word (becomes_by p head)) (first_word (becomes_by w head)) (length (after p arguments)) (length (after w arguments)) (has_room p arguments)
-      (λ text h. known relations p w head text drawn agrees h) (least_all relations p w arguments drawn agrees) (equal_all relations p w arguments drawn agrees) e
+    (λ text h. known relations p w head text drawn agrees h) (least_all relations p w arguments drawn agrees) (equal_all relations p w arguments drawn agrees) e
 
 -- ---- names
 
@@ -138,7 +137,7 @@ condition_sound : (relations : List Bytes) (links : List Link) (p w : Choice) (d
     → condition_passes links false w demand ≡ true → condition_passes links true p demand ≡ true
 condition_sound relations links p w demand drawn agrees e =
     leads_more links demand (first_word (becomes_by p demand.low)) (first_word (becomes_by p demand.high)) (first_word (becomes_by w demand.low)) (first_word (becomes_by w demand.high))
-      (λ text h. known relations p w demand.low text drawn agrees h) (λ text h. known relations p w demand.high text drawn agrees h) e
+    (λ text h. known relations p w demand.low text drawn agrees h) (λ text h. known relations p w demand.high text drawn agrees h) e
 
 -- ---- all together
 
@@ -172,13 +171,14 @@ hopeless_now problem p e = record { none = λ w whole agrees. never (passes prob
 -- no option of a variable is left
 pub hopeless_offer : (problem : Problem) (offer : Offered) (p : Choice) → IsOffer problem offer
     → ((k : ℕ) (d : List Form) → k < length offer.allowed → IsHopeless problem (p ++ sets offer.variable (get_or offer.allowed k d) ∷ [])) → IsHopeless problem p
-hopeless_offer problem offer p is h = record { none = λ w whole agrees.
-    let b = becomes_by w offer.variable in
-    let has : Has (options (relations_of problem) offer.variable) b = chosen_of (relations_of problem) w offer.variable whole.drawn (subst (λ vs. Has vs offer.variable) (sym whole.covers) is.is_variable) in
-    by_test (keeps problem offer.variable b)
+hopeless_offer problem offer p is h = record {
+  none = λ w whole agrees.
+      let b = becomes_by w offer.variable in
+      let has : Has (options (relations_of problem) offer.variable) b = chosen_of (relations_of problem) w offer.variable whole.drawn (subst (λ vs. Has vs offer.variable) (sym whole.covers) is.is_variable) in
+      by_test (keeps problem offer.variable b)
       (λ kept. let at = has_at offer.allowed b (subst (λ xs. Has xs b) (sym is.allows) (has_filter (keeps problem offer.variable) (options (relations_of problem) offer.variable) b has kept)) in
-        (h at.0 b at.1).none w whole (agrees_more p w offer.variable (get_or offer.allowed at.0 b) agrees (sym at.2)))
-      (λ left. (hopeless_now problem (sets offer.variable b ∷ []) left).none w whole (agrees_more [] w offer.variable b (agrees_none w) refl))
+      (h at.0 b at.1).none w whole (agrees_more p w offer.variable (get_or offer.allowed at.0 b) agrees (sym at.2)))
+      (λ left. (hopeless_now problem (sets offer.variable b ∷ []) left).none w whole (agrees_more [] w offer.variable b (agrees_none w) refl));
 }
 
 -- no option of a variable was left by a loop over all of them
@@ -186,4 +186,4 @@ pub hopeless_loop : (problem : Problem) (offer : Offered) (p : Choice) (items : 
     → ((k : ℕ) (d : List Form) → k < i → IsHopeless problem (p ++ sets offer.variable (get_or items k d) ∷ [])) → IsHopeless problem p
 hopeless_loop problem offer p items i is e le h =
     hopeless_offer problem offer p is (λ k d lt. let long : length items ≡ length offer.allowed = ap length e in
-      subst (λ xs. IsHopeless problem (p ++ sets offer.variable (get_or xs k d) ∷ [])) e (h k d (omega arith)))
+    subst (λ xs. IsHopeless problem (p ++ sets offer.variable (get_or xs k d) ∷ [])) e (h k d (omega arith)))

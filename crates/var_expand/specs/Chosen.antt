@@ -3,7 +3,7 @@ use Rattle.std.specs.Prelude.{List, [], ◌∷◌, Bool, Option, Some, None, is_
 use Rattle.kif_tree.specs.declared.form.Form.{Form}
 use Rattle.kif_tree.specs.Terms.{Bytes, same}
 use Rattle.taxonomy.specs.Told.{word_text}
-use Rattle.var_expand.specs.Choices.{Setting, Choice}
+use Rattle.var_expand.specs.Choices.{Choice}
 
 -- what the choice sets for the form, if anything
 abbrev pub set_to : Choice → Form → Option (List Form)

@@ -1,5 +1,5 @@
 -- What the search for choices that fit asks of a choice of some of the variables.
-use Rattle.std.specs.Prelude.{◌≡◌, ℕ, ◌-◌, ◌⊎◌, List, [], ◌∷◌, ◌++◌, map, filter, length, take, Bool, true, false, not, ◌&&◌, ◌||◌, nat_eq, nat_lt, Option, Some, None, is_some, if◌then◌else◌}
+use Rattle.std.specs.Prelude.{◌≡◌, ℕ, ◌-◌, ◌⊎◌, List, [], ◌∷◌, ◌++◌, map, filter, length, take, Bool, true, false, not, ◌&&◌, ◌||◌, nat_eq, nat_lt, Option, Some, None}
 use Rattle.std.specs.List.{list_all, list_any}
 use Rattle.kif_tree.specs.declared.form.Form.{Form, out-Form}
 use Rattle.kif_tree.specs.declared.form.Form.TheOpen.{Form-F}
@@ -11,9 +11,9 @@ use Rattle.signatures.specs.declared.told.Arity.{Arity}
 use Rattle.signatures.specs.declared.told.Arity.TheVariants.{Exactly, Any, Unstated}
 use Rattle.signatures.specs.declared.signatures.Signatures.{Signatures}
 use Rattle.taxonomy.specs.ChainDecision.{leads_by}
-use Rattle.taxonomy.specs.Told.{Link, word_text}
-use Rattle.var_expand.specs.Choices.{Setting, Choice, sets, options, choices, becomes_by, after, is_variable, is_row, row_part, row_numbers}
-use Rattle.var_expand.specs.Chosen.{set_to, is_set, first_word}
+use Rattle.taxonomy.specs.Told.{Link}
+use Rattle.var_expand.specs.Choices.{Setting, Choice, sets, options, choices, becomes_by, after, is_row, row_part, row_numbers}
+use Rattle.var_expand.specs.Chosen.{is_set, first_word}
 use Rattle.var_expand.specs.Gathered.{Demand, is_as}
 use Rattle.var_expand.specs.Offered.{Offered}
 use Rattle.var_expand.specs.declared.fitting.Problem.{Problem}

@@ -11,9 +11,9 @@ ghost use Rattle.var_expand.specs.declared.expanded.Expanded.TheVariants as answ
 ghost use Rattle.var_expand.specs.Expansion as spec;
 
 use crate::chosen::Chosen;
-use crate::gathered::gather_conditions;
 use crate::expanded::Expanded;
 use crate::fitting::Problem;
+use crate::gathered::gather_conditions;
 use crate::lists::{Parts, gather_arguments, gather_lists, gather_sentences};
 use crate::options::{Offer, offers, rows, singles, words};
 use crate::part_numbers::number_parts;
@@ -46,7 +46,14 @@ fn fitting<'a>(
     let names = singles(alloc, words)?;
     let offers = offers(alloc, problem, variables, names.items(), rows, parts)?;
     let mut found = Listed::new(alloc);
-    find(alloc, problem, predicates, offers.items(), parts, &mut found)?;
+    find(
+        alloc,
+        problem,
+        predicates,
+        offers.items(),
+        parts,
+        &mut found,
+    )?;
     Ok(found)
 }
 
@@ -81,11 +88,7 @@ fn find<'a>(
     Ok(())
 }
 
-fn variants(
-    alloc: Global,
-    form: &Form,
-    fitting: &[Listed<Chosen>],
-) -> Result<Forms, NoMemory>
+fn variants(alloc: Global, form: &Form, fitting: &[Listed<Chosen>]) -> Result<Forms, NoMemory>
     ensures { IfOk result (λ variants. variants ≡ map (replacement.replaced form.now) fitting.now) }
 {
     let mut variants = Listed::new(alloc);

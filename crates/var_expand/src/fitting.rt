@@ -98,7 +98,10 @@ fn condition_fits(
 ) -> bool
     ensures { result ≡ spec.condition_passes taxonomy.now.links partly choice.now condition.now }
 {
-    match (word_by(choice, condition.low), word_by(choice, condition.high)) {
+    match (
+        word_by(choice, condition.low),
+        word_by(choice, condition.high),
+    ) {
         (Some(low), Some(high)) => taxonomy.is_above(condition.kind, low, high),
         _ => partly,
     }

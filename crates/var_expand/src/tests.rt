@@ -129,7 +129,10 @@ fn the_choices_that_fit_stand_in_order(rt: HostRuntime) -> Result<(), Fail> {
             b"(instance parent BinaryPredicate) (instance ancestor BinaryPredicate) (instance between TernaryPredicate) (subrelation parent ancestor) (subrelation parent between) (=> (and (subrelation ?R1 ?R2) (?R1 @ROW)) (?R2 @ROW))",
             b"(=> (and (subrelation parent ancestor) (parent ?ROW!1 ?ROW!2)) (ancestor ?ROW!1 ?ROW!2))",
         ),
-        (b"(valence p 2) (valence q 3) (=> (p @ROW) (q @ROW))", b"NoLength"),
+        (
+            b"(valence p 2) (valence q 3) (=> (p @ROW) (q @ROW))",
+            b"NoLength",
+        ),
         (
             b"(valence p 2) (valence q 2) (=> (p @ROW) (q @ROW))",
             b"(=> (p ?ROW!1 ?ROW!2) (q ?ROW!1 ?ROW!2))",
@@ -145,11 +148,11 @@ fn the_choices_that_fit_stand_in_order(rt: HostRuntime) -> Result<(), Fail> {
             b"(p ?ROW!1)(valence ?ROW!1 ?ROW!2)",
         ),
         (b"(valence fFn 1) (?R a)", b"NoRelation"),
+        (b"(valence fFn 1) (valence p 1) (?P (?F a))", b"(p (fFn a))"),
         (
-            b"(valence fFn 1) (valence p 1) (?P (?F a))",
-            b"(p (fFn a))",
+            b"(valence fFn 1) (p a) (and (?F a) (p (?F a)))",
+            b"NoRelation",
         ),
-        (b"(valence fFn 1) (p a) (and (?F a) (p (?F a)))", b"NoRelation"),
         (b"(=> (instance ?R Foo) (?R a))", b"NoRelation"),
         (
             b"(p b) (instance p C) (subclass C Foo) (=> (instance ?R Foo) (?R a))",

@@ -1,4 +1,4 @@
-use Rattle.std.proofs.Common.{◌≡◌, ℕ, take}
+use Rattle.std.proofs.Common.{◌≡◌, take}
 use Rattle.var_expand.proofs.chosen.copied.Given as goal
 
 abbrev pub invariant-loop-chosen : goal.invariant-loop-chosen

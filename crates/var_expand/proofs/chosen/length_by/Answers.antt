@@ -1,4 +1,4 @@
-use Rattle.std.proofs.Common.{◌≡◌, ◌∙◌, sym, ap, refl, Some, None, length}
+use Rattle.std.proofs.Common.{sym, ap, length}
 use Rattle.var_expand.proofs.ChoiceLaws.{becomes_set, becomes_unset}
 use Rattle.var_expand.proofs.chosen.length_by.Goals as goal
 

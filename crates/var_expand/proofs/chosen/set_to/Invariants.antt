@@ -1,4 +1,4 @@
-use Rattle.std.proofs.Common.{◌≡◌, ℕ, length}
+use Rattle.std.proofs.Common.{◌≡◌, length}
 use Rattle.var_expand.specs.Chosen.{set_to}
 use Rattle.var_expand.proofs.chosen.set_to.Given as goal
 

@@ -1,4 +1,4 @@
-use Rattle.std.proofs.Common.{◌≡◌, ◌∙◌, sym, ap, refl, Some, None, length}
+use Rattle.std.proofs.Common.{◌∙◌, sym, ap, Some}
 use Rattle.var_expand.proofs.WordLaws.{word_text-is, word_text_other}
 use Rattle.var_expand.proofs.chosen.word_of.Goals as goal
 

@@ -1,7 +1,5 @@
-use Rattle.std.proofs.Common.{◌≡◌, ◌∙◌, ◌-◌, sym, ap, subst, map, take, drop, length, []}
-use Rattle.std.specs.Prelude.{OnOk}
-use Rattle.var_expand.specs.Problems.{passing}
-use Rattle.var_expand.specs.Search.{AreOffers, IsOffer, IsBegun, offered_variable, filled, fitting}
+use Rattle.std.proofs.Common.{◌∙◌, sym, ap, subst, map}
+use Rattle.var_expand.specs.Search.{IsOffer, IsBegun, offered_variable, filled, fitting}
 use Rattle.var_expand.proofs.FinalLaws.{are_offers, each_take, each_drop, begun_first, found_all, found_none}
 use Rattle.var_expand.proofs.expansion.find.Goals as goal
 

@@ -1,5 +1,4 @@
-use Rattle.std.proofs.Common.{◌≡◌, ◌∙◌, sym, ap, map, take, List, [], ◌∷◌}
-use Rattle.kif_tree.specs.declared.form.Form.{Form}
+use Rattle.std.proofs.Common.{◌∙◌, ap, List}
 use Rattle.var_expand.specs.Choices.{Choice}
 use Rattle.var_expand.specs.Problems.{passing}
 use Rattle.var_expand.specs.Search.{filled, relations_of}

@@ -1,4 +1,4 @@
-use Rattle.std.proofs.Common.{◌≡◌, ◌∙◌, sym, ap, ap₂}
+use Rattle.std.proofs.Common.{◌∙◌, ap, ap₂}
 use Rattle.var_expand.specs.Search.{words_lead, condition_passes}
 use Rattle.var_expand.proofs.ConditionLaws.{above_is}
 use Rattle.var_expand.proofs.fitting.condition_fits.Goals as goal

@@ -1,5 +1,4 @@
-use Rattle.std.proofs.Common.{◌≡◌, ◌++◌, ◌+◌, List, [], ◌∷◌, take, map, filter, Bool, true, false, length}
-use Rattle.std.specs.List.{list_any, list_all, flat_map}
+use Rattle.std.proofs.Common.{◌≡◌, take, false}
 use Rattle.var_expand.specs.Search.{has_room}
 use Rattle.var_expand.proofs.fitting.has_room.Given as goal
 

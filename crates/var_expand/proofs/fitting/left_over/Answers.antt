@@ -1,4 +1,4 @@
-use Rattle.std.proofs.Common.{◌≡◌, arith}
+use Rattle.std.proofs.Common.{arith}
 use Rattle.var_expand.specs.Choices.{becomes_by}
 use Rattle.var_expand.proofs.ListLaws.{below_flat_map}
 use Rattle.var_expand.proofs.fitting.left_over.Goals as goal

@@ -1,4 +1,4 @@
-use Rattle.std.proofs.Common.{◌≡◌, ◌∙◌, sym, ap, refl, Some, None, length}
+use Rattle.std.proofs.Common.{sym}
 use Rattle.var_expand.proofs.WordLaws.{is_word-is, is_word_other}
 use Rattle.var_expand.proofs.gathered.is_word.Goals as goal
 

@@ -1,4 +1,4 @@
-use Rattle.std.proofs.Common.{◌≡◌, ◌∙◌, sym, ap, Some}
+use Rattle.std.proofs.Common.{◌∙◌, sym, ap, Some}
 use Rattle.var_expand.specs.Gathered.{kind_of_head}
 use Rattle.var_expand.proofs.WordLaws.{word_text-is, word_text_other}
 use Rattle.var_expand.proofs.gathered.kind_of.Goals as goal

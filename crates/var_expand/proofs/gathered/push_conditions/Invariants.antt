@@ -1,5 +1,5 @@
-use Rattle.std.proofs.Common.{◌≡◌, ◌++◌, ◌+◌, List, [], ◌∷◌, take, map, filter, Bool, true, false, length}
-use Rattle.std.specs.List.{list_any, list_all, flat_map}
+use Rattle.std.proofs.Common.{◌≡◌, ◌++◌, take}
+use Rattle.std.specs.List.{flat_map}
 use Rattle.kif_tree.specs.Names.{parts_in}
 use Rattle.var_expand.specs.Gathered.{demands}
 use Rattle.var_expand.proofs.gathered.push_conditions.Given as goal

@@ -1,7 +1,7 @@
-use Rattle.std.proofs.Common.{◌≡◌, ◌∙◌, ap, arith}
+use Rattle.std.proofs.Common.{◌∙◌, ap, arith}
 use Rattle.std.specs.List.{flat_map}
 use Rattle.kif_tree.specs.CompoundLaws.{compounds_other}
-use Rattle.kif_tree.specs.Profile.{compounds, operands}
+use Rattle.kif_tree.specs.Profile.{compounds}
 use Rattle.var_expand.specs.Gathered.{applied_below}
 use Rattle.var_expand.proofs.GatherLaws.{applied_of}
 use Rattle.var_expand.proofs.ListLaws.{nothing_more, ended}

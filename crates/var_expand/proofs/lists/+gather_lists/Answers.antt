@@ -1,6 +1,6 @@
-use Rattle.std.proofs.Common.{◌≡◌, ◌∙◌, filter, ap, arith}
+use Rattle.std.proofs.Common.{◌∙◌, filter, ap, arith}
 use Rattle.kif_tree.specs.CompoundLaws.{compounds_other}
-use Rattle.kif_tree.specs.Profile.{compounds, operands}
+use Rattle.kif_tree.specs.Profile.{compounds}
 use Rattle.var_expand.specs.Fitting.{varies}
 use Rattle.var_expand.specs.Gathered.{if_varies}
 use Rattle.var_expand.proofs.GatherLaws.{lists_of}

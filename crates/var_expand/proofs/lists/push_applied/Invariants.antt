@@ -1,5 +1,5 @@
-use Rattle.std.proofs.Common.{◌≡◌, ◌++◌, ◌+◌, List, [], ◌∷◌, take, map, filter, Bool, true, false, length}
-use Rattle.std.specs.List.{list_any, list_all, flat_map}
+use Rattle.std.proofs.Common.{◌≡◌, ◌++◌, take}
+use Rattle.std.specs.List.{flat_map}
 use Rattle.var_expand.specs.Gathered.{if_applied}
 use Rattle.var_expand.proofs.lists.push_applied.Given as goal
 

@@ -1,4 +1,4 @@
-use Rattle.std.proofs.Common.{◌≡◌, ◌∙◌, refl, arith, ◌+◌}
+use Rattle.std.proofs.Common.{◌∙◌, refl, arith, ◌+◌}
 use Rattle.std.proofs.lemmas.List.{take_all}
 use Rattle.var_expand.specs.Choices.{beginnings}
 use Rattle.var_expand.proofs.ListLaws.{beginnings_more, length-beginnings}

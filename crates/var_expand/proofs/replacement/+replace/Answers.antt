@@ -1,4 +1,4 @@
-use Rattle.std.proofs.Common.{◌≡◌, ◌∙◌, sym, ap, length, [], arith}
+use Rattle.std.proofs.Common.{◌≡◌, ◌∙◌, sym, ap, [], arith}
 use Rattle.kif_tree.specs.declared.form.Form.TheVariants as form
 use Rattle.kif_tree.specs.Names.{bound}
 use Rattle.var_expand.specs.Replacement.{replaced, without}

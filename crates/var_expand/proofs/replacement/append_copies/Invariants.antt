@@ -1,5 +1,4 @@
-use Rattle.std.proofs.Common.{◌≡◌, ◌++◌, ◌+◌, List, [], ◌∷◌, take, map, filter, Bool, true, false, length}
-use Rattle.std.specs.List.{list_any, list_all, flat_map}
+use Rattle.std.proofs.Common.{◌≡◌, ◌++◌, take}
 use Rattle.var_expand.proofs.replacement.append_copies.Given as goal
 
 abbrev pub invariant-loop-form : goal.invariant-loop-form

@@ -1,4 +1,4 @@
-use Rattle.std.proofs.Common.{◌≡◌, ◌∙◌, sym, ap, true}
+use Rattle.std.proofs.Common.{◌∙◌, sym, ap, true}
 use Rattle.var_expand.specs.Offered.{Offered}
 use Rattle.var_expand.specs.Search.{passes, IsOffer}
 use Rattle.var_expand.proofs.LoopLaws.{first_of_each}

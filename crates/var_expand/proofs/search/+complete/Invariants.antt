@@ -1,7 +1,7 @@
-use Rattle.std.proofs.Common.{◌≡◌, ℕ, ◌<◌, ◌+◌, ◌*◌, List, [], ◌∷◌, ◌++◌, take, map, length, get_or}
+use Rattle.std.proofs.Common.{◌≡◌, ℕ, ◌<◌, ◌+◌, ◌*◌, List, [], ◌∷◌, ◌++◌, length, get_or}
 use Rattle.kif_tree.specs.declared.form.Form.{Form}
 use Rattle.var_expand.specs.Choices.{sets}
-use Rattle.var_expand.specs.Search.{IsHopeless, filled, fitting, offered_variable}
+use Rattle.var_expand.specs.Search.{IsHopeless}
 use Rattle.var_expand.proofs.search.+complete.Given as goal
 
 abbrev pub decreases-completes : goal.decreases-completes

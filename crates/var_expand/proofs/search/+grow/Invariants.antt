@@ -1,7 +1,6 @@
-use Rattle.std.proofs.Common.{◌≡◌, ℕ, ◌<◌, ◌+◌, ◌*◌, List, [], ◌∷◌, ◌++◌, take, map, length, get_or}
-use Rattle.kif_tree.specs.declared.form.Form.{Form}
+use Rattle.std.proofs.Common.{◌≡◌, ◌+◌, ◌*◌, [], ◌∷◌, ◌++◌, take, map, length}
 use Rattle.var_expand.specs.Choices.{sets}
-use Rattle.var_expand.specs.Search.{IsHopeless, filled, fitting, offered_variable}
+use Rattle.var_expand.specs.Search.{filled, fitting, offered_variable}
 use Rattle.std.specs.List.{flat_map}
 use Rattle.var_expand.proofs.search.+grow.Given as goal
 

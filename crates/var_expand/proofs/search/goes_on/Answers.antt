@@ -1,4 +1,4 @@
-use Rattle.std.proofs.Common.{◌≡◌, ◌∙◌, sym, ap, true}
+use Rattle.std.proofs.Common.{◌∙◌, sym, ap, true}
 use Rattle.var_expand.specs.Search.{passes}
 use Rattle.var_expand.proofs.SoundLaws.{hopeless_now}
 use Rattle.var_expand.proofs.search.goes_on.Goals as goal

@@ -1,4 +1,4 @@
-use Rattle.std.proofs.Common.{◌≡◌, ◌∙◌, sym, ap, arith}
+use Rattle.std.proofs.Common.{◌∙◌, ap}
 use Rattle.var_expand.specs.Offered.{Offered}
 use Rattle.var_expand.proofs.SoundLaws.{hopeless_loop}
 use Rattle.var_expand.proofs.search.has_option.Goals as goal

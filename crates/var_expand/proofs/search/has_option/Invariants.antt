@@ -1,8 +1,7 @@
-use Rattle.std.proofs.Common.{◌≡◌, ℕ, ◌<◌, ◌+◌, ◌*◌, List, [], ◌∷◌, ◌++◌, take, map, length, get_or}
+use Rattle.std.proofs.Common.{◌≡◌, ℕ, ◌<◌, List, [], ◌∷◌, ◌++◌, get_or}
 use Rattle.kif_tree.specs.declared.form.Form.{Form}
 use Rattle.var_expand.specs.Choices.{sets}
-use Rattle.var_expand.specs.Search.{IsHopeless, filled, fitting, offered_variable}
-use Rattle.std.specs.List.{flat_map}
+use Rattle.var_expand.specs.Search.{IsHopeless}
 use Rattle.var_expand.proofs.search.has_option.Given as goal
 
 abbrev pub invariant-loop-option : goal.invariant-loop-option
