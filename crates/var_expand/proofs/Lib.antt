@@ -1,0 +1,14 @@
+pub mod AgreeLaws
+pub mod ChoiceLaws
+pub mod ConditionLaws
+pub mod ExactLaws
+pub mod FinalLaws
+pub mod GatherLaws
+pub mod GrowLaws
+pub mod ListLaws
+pub mod LoopLaws
+pub mod MemberLaws
+pub mod NothingLaws
+pub mod ReplacedLaws
+pub mod SoundLaws
+pub mod WordLaws

@@ -1,5 +1,12 @@
 pub mod Choices
+pub mod Chosen
 pub mod Conditions
 pub mod Expansion
 pub mod Fitting
+pub mod Gathered
+pub mod Offered
+pub mod Problems
 pub mod Replacement
+pub mod Search
+pub mod Spliced
+pub mod Tested
