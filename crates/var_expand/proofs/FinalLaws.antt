@@ -14,7 +14,7 @@ use Rattle.sigma_base.specs.Lists.{Each}
 use Rattle.signatures.specs.Tables.{relations_in}
 use Rattle.signatures.specs.declared.signatures.Signatures.{Signatures}
 use Rattle.taxonomy.specs.Told.{Link}
-use Rattle.var_expand.specs.Choices.{Choice, choices, chosen_for, predicate_variables, row_variables, is_variable, is_row, begins_with, heads_a_list, names}
+use Rattle.var_expand.specs.Choices.{Choice, choices, chosen_for, predicate_variables, row_variables, is_variable, is_row, begins_with, heads_a_list, relation_options}
 use Rattle.var_expand.specs.Expansion.{IsExpansion, outcome, variants_by, nothing_fits}
 use Rattle.var_expand.specs.Fitting.{varies}
 use Rattle.var_expand.specs.Offered.{Offered}
@@ -219,11 +219,11 @@ pub problem_distinct : (f : Form) (predicates rows : List Form) (signatures : Si
     → IsProblem f (filter varies (compounds f)) predicates rows signatures links problem → predicates ≡ predicate_variables f → rows ≡ row_variables f → AreDistinct problem.variables
 problem_distinct f predicates rows signatures links problem is first second = subst AreDistinct (sym (is.variables ∙ ap₂ ◌++◌ first second)) (chosen_distinct f)
 
-each_named : (relations : List Bytes) → map (λ (f : Form). f ∷ []) (map form.Word relations) ≡ names relations
+each_named : (relations : List Bytes) → map (λ (f : Form). f ∷ []) (map form.Word relations) ≡ relation_options relations
 each_named [] = refl
 each_named (relation ∷ relations) = ap (λ all. (form.Word relation ∷ []) ∷ all) (each_named relations)
 
-pub names_of : (relations : List Bytes) (words : List Form) (all : List (List Form)) → all ≡ map (λ f. f ∷ []) words → words ≡ map form.Word relations → all ≡ names relations
+pub names_of : (relations : List Bytes) (words : List Form) (all : List (List Form)) → all ≡ map (λ f. f ∷ []) words → words ≡ map form.Word relations → all ≡ relation_options relations
 names_of relations words all e h = e ∙ ap (map (λ (f : Form). f ∷ [])) h ∙ each_named relations
 
 pub predicates_of : (f : Form) (lists : List (List Form)) (free_ones predicates : List Form) → lists ≡ filter varies (compounds f) → free_ones ≡ free_names f

@@ -28,7 +28,7 @@ heads_a_list f head = list_any (begins_with head) (compounds f)
 abbrev pub predicate_variables : Form → List Form
 predicate_variables f = filter (λ name. is_variable name && heads_a_list f name) (free_names f)
 
--- the row variables in order of their first occurrence
+-- the row variables in order of their first free occurrence
 abbrev pub row_variables : Form → List Form
 row_variables f = filter is_row (free_names f)
 
@@ -37,7 +37,7 @@ chosen_for f = predicate_variables f ++ row_variables f
 
 -- ---- what may be chosen
 
--- the texts of the numbers from 1 to 5, which are the places in a row and its lengths
+-- the texts of the places in the longest row
 abbrev pub row_numbers : List Bytes
 row_numbers = codes "1" ∷ codes "2" ∷ codes "3" ∷ codes "4" ∷ codes "5" ∷ []
 
@@ -51,17 +51,17 @@ beginnings [] = []
 beginnings (x ∷ xs) = (x ∷ []) ∷ map (λ ys. x ∷ ys) (beginnings xs)
 
 -- a row variable becomes one to five variables
-abbrev pub rows : Bytes → List (List Form)
-rows row = beginnings (map (row_part row) row_numbers)
+abbrev pub row_options : Bytes → List (List Form)
+row_options row = beginnings (map (row_part row) row_numbers)
 
 -- a predicate variable becomes a relation name
-abbrev pub names : List Bytes → List (List Form)
-names relations = map (λ relation. form.Word relation ∷ []) relations
+abbrev pub relation_options : List Bytes → List (List Form)
+relation_options relations = map (λ relation. form.Word relation ∷ []) relations
 
 abbrev pub options_layer : List Bytes → Form-F Form → List (List Form)
 options_layer relations (Form-F.Word text) = []
-options_layer relations (Form-F.Variable text) = names relations
-options_layer relations (Form-F.Row text) = rows text
+options_layer relations (Form-F.Variable text) = relation_options relations
+options_layer relations (Form-F.Row text) = row_options text
 options_layer relations (Form-F.Numeral text) = []
 options_layer relations (Form-F.Quoted text) = []
 options_layer relations (Form-F.List parts) = []
@@ -93,6 +93,7 @@ abbrev pub becomes_by : Choice → Form → List Form
 becomes_by [] f = f ∷ []
 becomes_by (setting ∷ choice) f = if same setting.variable f then setting.becomes else becomes_by choice f
 
--- the parts of a list after the choice, where the lists among them stay
+-- the parts of a list after the choice, where the lists among them stay. What quantifiers hide is replaced too: inside the profile no
+-- hidden variable heads a list and no row variable is hidden, and any other becomes one form, so that counts and heads are right
 abbrev pub after : Choice → List Form → List Form
 after choice parts = flat_map (becomes_by choice) parts

@@ -1,4 +1,4 @@
--- The conditions that a form puts on what is chosen: in the first part of an implication, alone or in an `and`.
+-- The conditions that a form headed `=>` puts on what is chosen: its first part, or the direct parts of an `and` that stands there.
 use Rattle.std.specs.Prelude.{◌≡◌, List, [], ◌∷◌, map, filter, Bool, false, ◌&&◌, ◌||◌, if◌then◌else◌, codes, Option, Some, is_some}
 use Rattle.std.specs.List.{list_any, flat_map}
 use Rattle.std.specs.Str.{bytes_eq}

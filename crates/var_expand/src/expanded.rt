@@ -4,11 +4,11 @@ use kif_tree::Forms;
 /// The variants of a form, numbered from 1 in this order, or why it has none.
 #[derive(Debug, Drop)]
 pub enum Expanded {
-    /// The form after each choice that fits. At most 20,000.
+    /// The form after each choice that fits: one at least, and at most 20,000.
     Variants(Forms),
-    /// No lengths of the row variables fit. The form has no predicate variable.
+    /// No lengths of the row variables fit, of which the form has one at least, and no predicate variable.
     NoLength,
-    /// No relation names, with whatever lengths, fit.
+    /// No relation names, with whatever lengths, fit. The form has a predicate variable.
     NoRelation,
     /// More than 20,000 choices fit.
     TooMany,

@@ -2,7 +2,6 @@
 ghost use Rattle.std.specs.Prelude.{◌≡◌, [], ◌∷◌, map, filter, take, IfOk, OnOk};
 ghost use Rattle.kif_tree.specs.Profile as profile;
 ghost use Rattle.kif_tree.specs.declared.form.Form.TheVariants as forms;
-ghost use Rattle.taxonomy.specs.Told as told;
 ghost use Rattle.var_expand.specs.Fitting as fits;
 ghost use Rattle.var_expand.specs.Problems as problems;
 ghost use Rattle.var_expand.specs.Replacement as replacement;
@@ -126,7 +125,14 @@ fn only_variant(alloc: Global, form: &Form) -> Result<Expanded, NoMemory>
     Ok(Expanded::Variants(variants))
 }
 
-/// The form after each choice that fits, or why there are no variants.
+/// The form after each choice that fits, in order of the choices, or why there are no variants.
+///
+/// A choice gives each predicate variable, which is a variable that heads a list, a relation name of the signatures, and each row
+/// variable a length from 1 to 5. It fits where the lists that vary have as many arguments as their heads take, names of functions
+/// stand in argument place and no others, and the conditions of an implication have their chains. A name replaces its variable where
+/// that is free, and `@ROW` of length 2 becomes `?ROW!1 ?ROW!2`. A form without such variables is its own one variant.
+///
+/// It is meant for shaped forms within the profile and tables that were made of one list of forms, and answers for any.
 pub fn expand(
     alloc: Global,
     form: &Form,

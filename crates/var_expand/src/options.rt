@@ -142,7 +142,7 @@ fn offer_for<'a>(
     row: &'a [Form],
     part: usize,
 ) -> Result<Offer<'a>, NoMemory>
-    requires names { names.now ≡ choices.names (spec.relations_of problem.now) }
+    requires names { names.now ≡ choices.relation_options (spec.relations_of problem.now) }
     requires row { row.now ≡ spec.row_parts variable.now }
     ensures { IfOk result (λ offer. offer ≡ spec.offered problem.now variable.now) }
 {
@@ -173,7 +173,7 @@ pub fn offers<'a>(
     rows: &'a [Forms],
     parts: &[usize],
 ) -> Result<Listed<Offer<'a>>, NoMemory>
-    requires names { names.now ≡ choices.names (spec.relations_of problem.now) }
+    requires names { names.now ≡ choices.relation_options (spec.relations_of problem.now) }
     requires rows { rows.now ≡ map spec.row_parts variables.now }
     ensures { IfOk result (λ offers. offers ≡ map (spec.offered problem.now) variables.now) }
 {
