@@ -145,7 +145,7 @@ fn conditions_fit(
     true
 }
 
-/// Whether the choice fits, or, where it is one of some variables, may fit once more is set. It takes no memory.
+/// Whether the choice fits, or, where `partly` says that it is one of some variables, may fit once more is set. It takes no memory.
 #[tactic(auto, unfolding(crate::specs::Search::passes))]
 pub fn passes(problem: &Problem, choice: &[Chosen], partly: bool) -> bool
     ensures { result ≡ spec.passes problem.now partly choice.now }

@@ -105,6 +105,7 @@ fn completes_with<'a>(
     Ok(can)
 }
 
+/// As `completes`, by the choice itself and by each variable alone first.
 #[cycle(complete)]
 fn may_complete<'a>(
     problem: &Problem,
@@ -191,7 +192,7 @@ pub struct Offers<'s, 'a> {
     pub rows: &'s [Offer<'a>],
 }
 
-fn goes_on<'a>(
+fn can_go_on<'a>(
     problem: &Problem,
     offers: &Offers<'_, 'a>,
     choice: &mut Vec<Chosen<'a>>,
@@ -249,6 +250,7 @@ fn grow_with<'a>(
     Ok(())
 }
 
+/// As `grow`, unless the part of the variable that was set last can't be completed.
 #[cycle(grow)]
 fn go_on<'a>(
     alloc: Global,
@@ -269,7 +271,7 @@ fn go_on<'a>(
     if rest.is_empty() {
         return keep(alloc, problem, choice.as_slice(), found);
     }
-    if !goes_on(problem, offers, choice, part)? {
+    if !can_go_on(problem, offers, choice, part)? {
         return Ok(());
     }
     grow(alloc, problem, offers, choice, rest, found)

@@ -9,7 +9,7 @@ use Rattle.var_expand.proofs.search.+grow.Goals as goal
 
 pub go_on-returns-then-not-branch-clause-found : goal.go_on-returns-then-not-branch-clause-found
 go_on-returns-then-not-branch-clause-found t c = sym (filled_nothing c.args.found.now (fitting c.args.problem.now c.args.choice.now.items (map offered_variable c.args.rest.now))
-    (hopeless_fitting c.args.problem.now c.args.choice.now.items (map offered_variable c.args.rest.now) c.requires.begun (c.in_ok-goes_on.ensures.sound c.if-not-branch.true)))
+    (hopeless_fitting c.args.problem.now c.args.choice.now.items (map offered_variable c.args.rest.now) c.requires.begun (c.in_ok-can_go_on.ensures.sound c.if-not-branch.true)))
 
 pub grow-grow_with-requires : goal.grow-grow_with-requires
 grow-grow_with-requires t c =
