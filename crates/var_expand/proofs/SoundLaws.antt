@@ -1,19 +1,23 @@
 -- A choice of some variables passes where a whole choice that agrees with it fits.
-use Rattle.std.proofs.Common.{◌≡◌, ℕ, ◌<◌, ◌≤◌, List, [], ◌∷◌, ◌++◌, length, get_or, Bool, true, false, not, ◌&&◌, ◌||◌, nat_eq, nat_lt, Option, Some, None, is_some, refl, sym, ap, ap₂, subst, ◌∙◌, arith, length-append}
+use Rattle.std.proofs.Common.{◌≡◌, ℕ, ◌<◌, ◌≤◌, List, [], ◌∷◌, ◌++◌, length, get_or, Bool, true, false, not, ◌&&◌, ◌||◌, nat_eq, nat_lt, Option, Some, None, is_some, filter, if◌then◌else◌, refl, sym, ap, ap₂, subst, ◌∙◌, arith, length-append}
 use Rattle.std.proofs.lemmas.Bool.Decides.{nat_tests}
-use Rattle.std.specs.List.{list_all}
+use Rattle.std.specs.List.{list_all, list_any}
+use Rattle.std.specs.Str.{bytes_eq}
 use Rattle.kif_tree.specs.declared.form.Form.{Form}
 use Rattle.kif_tree.specs.Terms.{Bytes}
 use Rattle.signatures.specs.Tables.{arity_in}
 use Rattle.signatures.specs.declared.signatures.Signatures.{Signatures}
 use Rattle.signatures.specs.declared.told.Arity.{Arity}
 use Rattle.signatures.specs.declared.told.Arity.TheVariants.{Exactly, Any, Unstated}
+use Rattle.taxonomy.specs.ChainDecision.{leads_by, is_kind, of_kind, starts, reaches}
+use Rattle.taxonomy.specs.Chains.{later_kind}
 use Rattle.taxonomy.specs.Told.{Link, word_text}
+use Rattle.taxonomy.specs.declared.told.ChainKind.{ChainKind}
 use Rattle.var_expand.specs.Choices.{Choice, sets, options, becomes_by, after, is_row}
 use Rattle.var_expand.specs.Chosen.{set_to, is_set, first_word}
 use Rattle.var_expand.specs.Gathered.{Demand}
 use Rattle.var_expand.specs.Offered.{Offered}
-use Rattle.var_expand.specs.Search.{Has, IsDrawn, Agrees, IsHopeless, IsOffer, keeps, relations_of, passes, has_room, takes_by, word_takes, count_passes, word_names, name_passes, words_lead, condition_passes}
+use Rattle.var_expand.specs.Search.{Has, IsDrawn, Agrees, IsHopeless, IsOffer, keeps, relations_of, passes, has_room, takes_by, word_takes, count_passes, word_names, name_passes, words_lead, begins_chain, condition_passes}
 use Rattle.var_expand.specs.declared.fitting.Problem.{Problem}
 use Rattle.var_expand.proofs.AgreeLaws.{agrees_more, agrees_none, IsShaped, shaped_of, word_stays, length_of, chosen_of}
 use Rattle.var_expand.proofs.ChoiceLaws.{becomes_unset}
@@ -125,12 +129,37 @@ name_sound relations function p w (head ∷ arguments) drawn agrees e =
 
 -- ---- conditions
 
+any_kept : {X : Type 0} (p q r : X → Bool) → ((x : X) → q x ≡ true → r x ≡ true) → (xs : List X) → list_any q (filter p xs) ≡ true → list_any (λ x. r x && p x) xs ≡ true
+any_kept p q r f [] e = absurd (cc)
+any_kept {X = X} p q r f (x ∷ xs) e = go (p x) (q x) refl e (any_kept p q r f xs)
+  where
+    or_second : (a b : Bool) → b ≡ true → (a || b) ≡ true
+    or_second true b h = refl
+    or_second false b h = h
+
+    go : (b c : Bool) → q x ≡ c → list_any q (if b then x ∷ filter p xs else filter p xs) ≡ true → (list_any q (filter p xs) ≡ true → list_any (λ y. r y && p y) xs ≡ true)
+        → ((r x && b) || list_any (λ y. r y && p y) xs) ≡ true
+    go true true k h later = ap (λ d. (d && true) || list_any (λ y. r y && p y) xs) (f x k)
+    go true false k h later = or_second (r x && true) (list_any (λ y. r y && p y) xs) (later (sym (ap (λ d. d || list_any q (filter p xs)) k) ∙ h))
+    go false c k h later = or_second (r x && false) (list_any (λ y. r y && p y) xs) (later h)
+
+-- a chain begins with a told link
+chain_begins : (links : List Link) (kind : ChainKind) (low high : Bytes) → leads_by links kind low high ≡ true → begins_chain links kind low ≡ true
+unfolding leads_by
+chain_begins links kind low high e =
+    any_kept (λ (link : Link). is_kind kind link.kind) (starts (of_kind (later_kind kind) links) low high) (λ (link : Link). bytes_eq link.low low)
+    (λ link h. (both (bytes_eq link.low low) (reaches (of_kind (later_kind kind) links) link.high high) h).0) links e
+
+low_begins : (links : List Link) (demand : Demand) (low : Bytes) (high : Option Bytes) → words_lead links false demand (Some low) high ≡ true → begins_chain links demand.kind low ≡ true
+low_begins links demand low None e = absurd (cc)
+low_begins links demand low (Some high) e = chain_begins links demand.kind low high e
+
 leads_more : (links : List Link) (demand : Demand) (low high whole_low whole_high : Option Bytes)
     → ((text : Bytes) → low ≡ Some text → whole_low ≡ Some text) → ((text : Bytes) → high ≡ Some text → whole_high ≡ Some text)
     → words_lead links false demand whole_low whole_high ≡ true → words_lead links true demand low high ≡ true
 leads_more links demand None None wl wh f g e = refl
 leads_more links demand None (Some h) wl wh f g e = refl
-leads_more links demand (Some l) None wl wh f g e = refl
+leads_more links demand (Some l) None wl wh f g e = low_begins links demand l wh (sym (ap (λ low. words_lead links false demand low wh) (f l refl)) ∙ e)
 leads_more links demand (Some l) (Some h) wl wh f g e = sym (ap₂ (words_lead links false demand) (f l refl) (g h refl)) ∙ e
 
 condition_sound : (relations : List Bytes) (links : List Link) (p w : Choice) (demand : Demand) → IsDrawn relations w → Agrees p w

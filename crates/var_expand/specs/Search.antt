@@ -1,6 +1,7 @@
 -- What the search for choices that fit asks of a choice of some of the variables.
 use Rattle.std.specs.Prelude.{◌≡◌, ℕ, ◌-◌, ◌⊎◌, List, [], ◌∷◌, ◌++◌, map, filter, length, take, Bool, true, false, not, ◌&&◌, ◌||◌, nat_eq, nat_lt, Option, Some, None}
 use Rattle.std.specs.List.{list_all, list_any}
+use Rattle.std.specs.Str.{bytes_eq}
 use Rattle.kif_tree.specs.declared.form.Form.{Form, out-Form}
 use Rattle.kif_tree.specs.declared.form.Form.TheOpen.{Form-F}
 use Rattle.kif_tree.specs.Names.{is_function_word}
@@ -10,8 +11,10 @@ use Rattle.signatures.specs.Tables.{arity_in, relations_in}
 use Rattle.signatures.specs.declared.told.Arity.{Arity}
 use Rattle.signatures.specs.declared.told.Arity.TheVariants.{Exactly, Any, Unstated}
 use Rattle.signatures.specs.declared.signatures.Signatures.{Signatures}
-use Rattle.taxonomy.specs.ChainDecision.{leads_by}
+use Rattle.taxonomy.specs.ChainDecision.{leads_by, is_kind}
 use Rattle.taxonomy.specs.Told.{Link}
+use Rattle.taxonomy.specs.declared.told.ChainKind.{ChainKind}
+use Rattle.taxonomy.specs.declared.told.Told.{Told}
 use Rattle.var_expand.specs.Choices.{Setting, Choice, sets, options, choices, becomes_by, after, is_row, row_part, row_numbers}
 use Rattle.var_expand.specs.Chosen.{is_set, first_word}
 use Rattle.var_expand.specs.Gathered.{Demand, is_as}
@@ -47,9 +50,17 @@ abbrev pub name_passes : Bool → Bool → Choice → List Form → Bool
 name_passes partly function choice [] = partly || not function
 name_passes partly function choice (head ∷ arguments) = word_names partly function (first_word (becomes_by choice head))
 
+abbrev pub is_of_kind : ChainKind → Told → Bool
+is_of_kind kind told = is_kind kind told.kind
+
+-- a told link of that kind begins with the word
+abbrev pub begins_chain : List Link → ChainKind → Bytes → Bool
+begins_chain links kind word = list_any (λ (link : Link). bytes_eq link.low word && is_kind kind link.kind) links
+
+-- with the lower word alone, a chain may begin there
 abbrev pub words_lead : List Link → Bool → Demand → Option Bytes → Option Bytes → Bool
 words_lead links partly demand (Some low) (Some high) = leads_by links demand.kind low high
-words_lead links partly demand (Some low) None = partly
+words_lead links partly demand (Some low) None = partly && begins_chain links demand.kind low
 words_lead links partly demand None (Some high) = partly
 words_lead links partly demand None None = partly
 

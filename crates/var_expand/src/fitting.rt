@@ -1,7 +1,8 @@
 //! Whether a choice fits, and whether a choice of some of the variables may become one that fits.
 ghost use Rattle.std.specs.Prelude.{◌≡◌, ◌+◌, ◌<◌, ◌&&◌, length, MatchOption};
-ghost use Rattle.std.specs.List.{list_all};
+ghost use Rattle.std.specs.List.{list_all, list_any};
 ghost use Rattle.signatures.specs.declared.told.Arity.TheVariants as arity;
+ghost use Rattle.taxonomy.specs.ChainDecision as decision;
 ghost use Rattle.var_expand.specs.Choices.{after};
 ghost use Rattle.var_expand.specs.Search as spec;
 
@@ -11,7 +12,7 @@ use crate::lists::{Parts, is_as, is_row};
 use kif_tree::{Form, Forms, is_function_word};
 use sigma_base::Listed;
 use signatures::{Arity, Signatures};
-use taxonomy::Taxonomy;
+use taxonomy::{ChainKind, Taxonomy, Told};
 
 /// What a form asks of a choice: the variables that it sets, the lists that vary, those headed by variables in argument place
 /// and in sentence place, and the conditions.
@@ -90,6 +91,36 @@ fn name_fits(choice: &[Chosen], partly: bool, function: bool, parts: &[Form]) ->
     }
 }
 
+fn is_kind(kind: ChainKind, other: ChainKind) -> bool
+    ensures { result ≡ decision.is_kind kind other }
+{
+    match (kind, other) {
+        (ChainKind::Class, ChainKind::Class)
+        | (ChainKind::Instance, ChainKind::Instance)
+        | (ChainKind::Relation, ChainKind::Relation) => true,
+        _ => false,
+    }
+}
+
+fn has_kind(kind: ChainKind, told: &[Told]) -> bool
+    ensures { result ≡ list_any (spec.is_of_kind kind) told.now }
+{
+    for one in told {
+        if is_kind(kind, one.kind) {
+            return true;
+        }
+    }
+    false
+}
+
+/// Whether a told link of that kind begins with the word.
+#[tactic(auto, using(crate::proofs::ConditionLaws::parents_begin))]
+fn begins_chain(taxonomy: &Taxonomy, kind: ChainKind, word: &[u8]) -> bool
+    ensures { result ≡ spec.begins_chain taxonomy.now.links kind word.now }
+{
+    has_kind(kind, taxonomy.parents(word))
+}
+
 fn condition_fits(
     taxonomy: &Taxonomy,
     choice: &[Chosen],
@@ -103,6 +134,7 @@ fn condition_fits(
         word_by(choice, condition.high),
     ) {
         (Some(low), Some(high)) => taxonomy.is_above(condition.kind, low, high),
+        (Some(low), None) => partly && begins_chain(taxonomy, condition.kind, low),
         _ => partly,
     }
 }
