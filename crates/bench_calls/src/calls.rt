@@ -1,4 +1,6 @@
 //! The calls that are timed.
+ghost use Rattle.std.specs.Prelude.{◌≡◌, IfOk};
+
 use kif_reader::read_forms;
 use kif_tree::{Form, Forms, Located};
 use sigma_base::{Listed, NoMemory};
@@ -59,7 +61,9 @@ struct Given<'a> {
 
 // ---- one round
 
-fn copies(alloc: Global, form: &Form, count: usize) -> Result<usize, NoMemory> {
+fn copies(alloc: Global, form: &Form, count: usize) -> Result<usize, NoMemory>
+    ensures { IfOk result (λ made. made ≡ count) }
+{
     let mut copies: Forms = Listed::new(alloc);
     for _ in 0..count {
         copies.push(form.copy(alloc)?)?;
@@ -82,7 +86,9 @@ fn variants_of_plain(alloc: Global, given: &Given<'_>) -> Result<usize, NoMemory
     Ok(count)
 }
 
-fn guarded(alloc: Global, given: &Given<'_>) -> Result<usize, NoMemory> {
+fn guarded(alloc: Global, given: &Given<'_>) -> Result<usize, NoMemory>
+    ensures { IfOk result (λ made. made ≡ given.now.pairs) }
+{
     let mut copies: Forms = Listed::new(alloc);
     for _ in 0..given.pairs {
         copies.push(guard(alloc, given.plain, given.signatures)?)?;
@@ -102,7 +108,7 @@ fn round(alloc: Global, kind: Kind, given: &Given<'_>) -> Result<usize, NoMemory
 }
 
 /// How many forms were made in all rounds.
-pub fn count_of(alloc: Global, call: Call) -> Result<usize, NoMemory> {
+pub(crate) fn count_of(alloc: Global, call: Call) -> Result<usize, NoMemory> {
     let forms = forms_of(alloc, call.names)?;
     let taxonomy = Taxonomy::of(alloc, forms.as_slice())?;
     let signatures = Signatures::of(alloc, forms.as_slice(), &taxonomy)?;

@@ -16,7 +16,7 @@ fn kind_of(word: &str) -> Option<Kind> {
 }
 
 /// The call that the words after the program's name ask for: its kind, how many names and how many rounds.
-pub fn call_in(arguments: &mut Args<Global>) -> Option<Call> {
+pub(crate) fn call_in(arguments: &mut Args<Global>) -> Option<Call> {
     arguments.next()?;
     let kind = kind_of(arguments.next()?.as_str())?;
     let names = arguments.next()?.as_str().parse().ok()?;

@@ -44,7 +44,7 @@ fn join_two(variables: &[Form], labels: &mut [usize], one: &Form, other: &Form) 
 }
 
 /// A number for each variable, one for those that share a list or a condition, directly or through others.
-pub fn number_parts(alloc: Global, problem: &Problem) -> Result<Vec<usize>, NoMemory> {
+pub(crate) fn number_parts(alloc: Global, problem: &Problem) -> Result<Vec<usize>, NoMemory> {
     let variables = problem.variables.items();
     let mut labels: Vec<usize> = (0..variables.len()).collect(alloc)?;
     for list in problem.lists.items() {
