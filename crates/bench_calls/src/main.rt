@@ -15,7 +15,9 @@ fn main(rt: HostRuntime) -> ExitCode {
         return ExitCode::from(2);
     };
     let Some(call) = call_in(&mut arguments) else {
-        let _ = println!(rt; "bench_calls tables|copy|expand NAMES ROUNDS");
+        let _ = println!(rt;
+            "bench_calls tables|copy|expand|copy-plain|expand-plain|guard-plain NAMES ROUNDS"
+        );
         return ExitCode::from(2);
     };
     let Ok(count) = count_of(rt.alloc(), call) else {
