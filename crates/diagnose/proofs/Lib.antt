@@ -1,9 +1,11 @@
 pub mod ArgumentLaws
 pub mod ClassWordLaws
+mod ConditionLaws
 pub mod FoundLaws
 mod FreeLaws
 mod HashedWordLaws
 pub mod ListLaws
+pub mod MergeLaws
 mod NewWordLaws
 pub mod NumberLaws
 pub mod OneListLaws

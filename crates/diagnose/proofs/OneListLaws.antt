@@ -69,7 +69,7 @@ one_position forms n m a b differ e k same = go (nat_cmp n m) (ranks n m)
     go Equal is = is
     go Greater lt = absurd (differ_at forms m n b a differ k e lt (sym same))
 
-stands_once : (forms : List Located) (p q : Place) → PlacesDiffer forms → StandsBefore forms p q → StandsBefore forms q p → ⊥
+pub stands_once : (forms : List Located) (p q : Place) → PlacesDiffer forms → StandsBefore forms p q → StandsBefore forms q p → ⊥
 stands_once forms p q differ s t =
     let a = positions_of forms p q s in
     let b = positions_of forms q p t in
@@ -104,7 +104,7 @@ one_of : (x : Diagnostic) (xs : List Diagnostic) (d : Diagnostic) → Contains (
 one_of x xs d (zero, lt, is) = inl is
 one_of x xs d (suc k, lt, is) = inr (k, omega (arith, lt), is)
 
-same_lists : (forms : List Located) → PlacesDiffer forms → (xs ys : List Diagnostic) → AreAscending forms xs → AreAscending forms ys → ((d : Diagnostic) → Contains xs d → Contains ys d) → ((d : Diagnostic) → Contains ys d → Contains xs d) → xs ≡ ys
+pub same_lists : (forms : List Located) → PlacesDiffer forms → (xs ys : List Diagnostic) → AreAscending forms xs → AreAscending forms ys → ((d : Diagnostic) → Contains xs d → Contains ys d) → ((d : Diagnostic) → Contains ys d → Contains xs d) → xs ≡ ys
 same_lists forms differ [] [] a b h k = refl
 same_lists forms differ [] (y ∷ ys) a b h k = let (n, lt, is) = k y (contains_head y ys) in absurd (omega (arith, lt))
 same_lists forms differ (x ∷ xs) [] a b h k = let (n, lt, is) = h x (contains_head x xs) in absurd (omega (arith, lt))

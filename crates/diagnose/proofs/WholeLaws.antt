@@ -141,10 +141,10 @@ seen_shown before located seen shown h = λ word. (λ k. same word ∙ (h word).
         list_any_push (λ (l : Located). not (is_shown l.form) && has_word word l.form) before located
         ∙ ap (λ b. is_snapshot_word before word || (not b && has_word word located.form)) shown ∙ or_false (is_snapshot_word before word)
 
-place_before : (before : List Located) (located : Located) (place : Place) → HasPlace before place → HasPlace (before ++ located ∷ []) place
+pub place_before : (before : List Located) (located : Located) (place : Place) → HasPlace before place → HasPlace (before ++ located ∷ []) place
 place_before before located place h = record { located = h.located; among = Contains-append_left before (located ∷ []) h.located h.among; at = h.at }
 
-place_last : (before : List Located) (located : Located) (place : Place) → place ≡ located.place → HasPlace (before ++ located ∷ []) place
+pub place_last : (before : List Located) (located : Located) (place : Place) → place ≡ located.place → HasPlace (before ++ located ∷ []) place
 place_last before located place e = record { located = located; among = Contains-append_right before (located ∷ []) located (contains_head located []); at = sym e }
 
 which_place : (before : List Located) (located : Located) (place : Place) → HasPlace (before ++ located ∷ []) place → HasPlace before place ⊎ (place ≡ located.place)
@@ -167,12 +167,12 @@ shown_form forms before located after seen list stand differ shown so_far = reco
     back d diag (inl k) = (so_far.exactly d).1 (diag, k)
     back d diag (inr e) = absurd (no_shown forms located d differ (subst (λ (ls : List Located). Contains ls located) (sym stand) (middle before located after)) shown diag e)
 
-record Parts (before : List Located) (one : Located) : Type 0 where
-  first : List Located
-  rest : List Located
-  are : before ≡ first ++ one ∷ rest
+pub record Parts (before : List Located) (one : Located) : Type 0 where
+  pub first : List Located
+  pub rest : List Located
+  pub are : before ≡ first ++ one ∷ rest
 
-parts_at : (before : List Located) (one : Located) → Contains before one → Parts before one
+pub parts_at : (before : List Located) (one : Located) → Contains before one → Parts before one
 parts_at [] one (k, lt, is) = absurd (omega (arith, lt))
 parts_at (x ∷ before) one (zero, lt, is) = record { first = []; rest = before; are = ap (λ (l : Located). l ∷ before) is }
 parts_at (x ∷ before) one (suc k, lt, is) = let p = parts_at before one (k, omega (arith, lt), is) in record { first = x ∷ p.first; rest = p.rest; are = ap (λ (ls : List Located). x ∷ ls) p.are }
@@ -181,7 +181,7 @@ append_again : {X : Type 0} (xs ys zs : List X) → (xs ++ ys) ++ zs ≡ xs ++ (
 append_again [] ys zs = refl
 append_again (x ∷ xs) ys zs = ap (λ ws. x ∷ ws) (append_again xs ys zs)
 
-earlier : (forms before : List Located) (located : Located) (after : List Located) (place : Place) → forms ≡ before ++ located ∷ after → HasPlace before place → StandsBefore forms place located.place
+pub earlier : (forms before : List Located) (located : Located) (after : List Located) (place : Place) → forms ≡ before ++ located ∷ after → HasPlace before place → StandsBefore forms place located.place
 earlier forms before located after place stand h =
     let p = parts_at before h.located h.among in
     subst (λ (q : Place). StandsBefore forms q located.place) h.at (record {
@@ -193,11 +193,11 @@ earlier forms before located after place stand h =
       stand = stand ∙ ap (λ (ls : List Located). ls ++ located ∷ after) p.are ∙ append_again p.first (h.located ∷ p.rest) (located ∷ after);
     })
 
-ascending_append : (forms : List Located) (xs ys : List Diagnostic) → AreAscending forms xs → AreAscending forms ys → Each (λ (x : Diagnostic). Each (ComesBefore forms x) ys) xs → AreAscending forms (xs ++ ys)
+pub ascending_append : (forms : List Located) (xs ys : List Diagnostic) → AreAscending forms xs → AreAscending forms ys → Each (λ (x : Diagnostic). Each (ComesBefore forms x) ys) xs → AreAscending forms (xs ++ ys)
 ascending_append forms [] ys a b c = b
 ascending_append forms (x ∷ xs) ys a b c = (each_append (ComesBefore forms x) xs ys a.0 c.0, ascending_append forms xs ys a.1 b c.1)
 
-each_of : {X : Type 0} (P : X → Type 0) (xs : List X) → ((x : X) → Contains xs x → P x) → Each P xs
+pub each_of : {X : Type 0} (P : X → Type 0) (xs : List X) → ((x : X) → Contains xs x → P x) → Each P xs
 each_of P [] h = tt
 each_of P (x ∷ xs) h = (h x (contains_head x xs), each_of P xs (λ y k. h y (contains_tail x xs y k)))
 

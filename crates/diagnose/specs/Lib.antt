@@ -5,6 +5,7 @@ pub mod Found
 pub mod Given
 pub mod HashedWords
 pub mod Laws
+pub mod Merged
 pub mod OfLists
 pub mod Order
 pub mod SoFar

@@ -10,6 +10,9 @@ mod laws;
 mod list;
 #[cfg(test)]
 mod list_tests;
+mod merged;
+#[cfg(test)]
+mod merged_tests;
 mod order;
 #[cfg(test)]
 mod variable_tests;
@@ -21,3 +24,4 @@ mod words;
 pub use diagnostic::Diagnostic;
 pub use laws::one_list_law;
 pub use list::diagnose;
+pub use merged::merge;

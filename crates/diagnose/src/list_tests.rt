@@ -45,7 +45,7 @@ fn is_free(place: Place, forms: &[Located]) -> bool
     place != first.place && is_free(place, rest)
 }
 
-fn places_differ(forms: &[Located]) -> bool
+pub(crate) fn places_differ(forms: &[Located]) -> bool
     ensures { OnTrue result (PlacesDiffer forms.now) }
 {
     let [first, rest @ ..] = forms else {
@@ -55,7 +55,7 @@ fn places_differ(forms: &[Located]) -> bool
 }
 
 /// Adds the load, the code, the term and the load of the other place, with a blank behind them.
-fn spell(text: &mut Text, diagnostic: &Diagnostic) -> Result<(), NoMemory> {
+pub(crate) fn spell(text: &mut Text, diagnostic: &Diagnostic) -> Result<(), NoMemory> {
     text.append_decimal(u64::from(diagnostic.place.constituent))?;
     text.push(b':')?;
     text.append_decimal(u64::from(diagnostic.code))?;

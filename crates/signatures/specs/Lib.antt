@@ -15,3 +15,5 @@ pub mod ArgumentTables
 pub mod Marks
 pub mod Names
 pub mod Below
+pub mod OneTables
+pub mod Laws

@@ -5,6 +5,7 @@ mod arities;
 mod below;
 mod forms;
 mod inherited;
+mod laws;
 mod lowers;
 mod names;
 mod nearest;
@@ -16,6 +17,7 @@ mod types;
 mod word_table;
 
 pub use arities::built_in;
+pub use laws::one_tables_law;
 pub use names::is_shown;
 pub use signatures::Signatures;
 pub use told::{Arity, TypeTold};

@@ -17,3 +17,4 @@ mod variables;
 
 pub use expanded::Expanded;
 pub use expansion::expand;
+pub use variables::{predicate_variables_of, row_variables_of};

@@ -4,8 +4,8 @@ ghost use Rattle.std.specs.List.{list_any};
 ghost use Rattle.var_expand.specs.Choices as choices;
 ghost use Rattle.var_expand.specs.Problems as problems;
 
-use crate::lists::{Parts, is_row, is_variable};
-use kif_tree::{Form, Forms, forms_equal};
+use crate::lists::{Parts, gather_lists, is_row, is_variable};
+use kif_tree::{Form, Forms, forms_equal, free_names};
 use sigma_base::{Listed, NoMemory};
 use std::alloc::Global;
 
@@ -64,4 +64,23 @@ pub fn row_variables(alloc: Global, names: &[Form]) -> Result<Forms, NoMemory>
         }
     }
     Ok(rows)
+}
+
+/// The predicate variables of the form, which are the variables that head a list, in order of their first free occurrence.
+#[tactic(auto, using(crate::proofs::FinalLaws::predicates_of))]
+pub fn predicate_variables_of(alloc: Global, form: &Form) -> Result<Forms, NoMemory>
+    ensures { IfOk result (λ variables. variables ≡ choices.predicate_variables form.now) }
+{
+    let free = free_names(alloc, form)?;
+    let mut lists = Listed::new(alloc);
+    gather_lists(&mut lists, form)?;
+    predicate_variables(alloc, free.items(), lists.items())
+}
+
+/// The row variables of the form, in order of their first free occurrence.
+pub fn row_variables_of(alloc: Global, form: &Form) -> Result<Forms, NoMemory>
+    ensures { IfOk result (λ variables. variables ≡ choices.row_variables form.now) }
+{
+    let free = free_names(alloc, form)?;
+    row_variables(alloc, free.items())
 }

@@ -1,0 +1,15 @@
+pub mod AcceptedLaws
+pub mod AskedLaws
+pub mod AtomLaws
+pub mod AtomMatrixLaws
+pub mod CountLaws
+pub mod InputLaws
+pub mod ProductLaws
+pub mod ProfiledLaws
+pub mod ProperScopeLaws
+pub mod QueryLaws
+pub mod ReadLaws
+pub mod ScopeLaws
+pub mod SentenceLaws
+pub mod SizeLaws
+pub mod TruthLaws

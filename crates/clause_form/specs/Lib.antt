@@ -1,0 +1,11 @@
+pub mod ClauseForms
+pub mod Connectives
+pub mod Matrices
+pub mod MatrixLaws
+pub mod Queries
+pub mod ReadingLaws
+pub mod Readings
+pub mod Reads
+pub mod SentenceLaws
+pub mod Sentences
+pub mod Sizes
