@@ -344,7 +344,8 @@ module _ (words : List Bytes) (contents : Contents) (status : ℕ) (text : Bytes
         by_shown : Shows parts facts replies.query status text → ShowsProof words contents text
         by_shown (inl shown) = answer_shown asked means parts whole facts spelled replies.query replies.plain shown
         by_shown (inr none) = other 1 none.done refl
-    forms_shown parts whole facts spelled (inr declines) = other 10 declines.is.done refl
+    forms_shown parts whole facts spelled (inr (inl overflow)) = other 6 overflow.is.done refl
+    forms_shown parts whole facts spelled (inr (inr declines)) = other 10 declines.is.done refl
 
     texts_shown : (parts : List Part) → AreWhole contents 1 asked.paths parts → OnTexts (OnForms asked) parts status text → ShowsProof words contents text
     texts_shown parts whole (inl fault) = other 5 fault.faulty.is.done refl

@@ -12,4 +12,5 @@ pub mod RequestLaws
 pub mod RunLaws
 pub mod SomeOutcomeLaws
 pub mod ToolLaws
+pub mod TranslationLaws
 pub mod ValueLaws

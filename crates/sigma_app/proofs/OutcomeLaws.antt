@@ -3,9 +3,11 @@ use Rattle.std.proofs.Common.{◌≡◌, ℕ, ◌+◌, ◌<◌, ◌≤◌, List,
 use Rattle.std.specs.Prelude.{slice_get, MatchBool}
 use Rattle.std.proofs.lemmas.Bool.{false≢true}
 use Rattle.std.proofs.lemmas.Bool.Decides.{nat_tests}
+use Rattle.std.proofs.lemmas.Option.{slice_get_within}
 use Rattle.sigma_base.specs.Lists.{Each, each_map, map_each}
 use Rattle.kif_tree.specs.declared.form.Form.{Form}
 use Rattle.kif_tree.specs.declared.place.Located.{Located}
+use Rattle.kif_tree.specs.declared.place.Place.{Place}
 use Rattle.kif_tree.specs.declared.subst.Pair.{Pair}
 use Rattle.kif_tree.specs.Places.{PlacesDiffer}
 use Rattle.kif_tree.specs.Terms.{Bytes, variables, distinct}
@@ -19,6 +21,7 @@ use Rattle.kif_reader.specs.declared.bytes.Spot.{Spot}
 use Rattle.kif_reader.specs.declared.kinds.ReadError.{ReadError}
 use Rattle.kif_reader.specs.declared.kinds.ReadError.TheVariants as unread
 use Rattle.kif_reader.proofs.OneFaultLaws.{spells_no_fault, fault_unique}
+use Rattle.translate.specs.declared.translated.Translated.{Translated}
 use Rattle.sigma_app.specs.declared.files.Part.{Part}
 use Rattle.sigma_app.specs.Requests.{Asked, Meaning, asks, checks, gives_clauses, exports, drills, IsTaken, NamesNone, is_refused}
 use Rattle.sigma_app.proofs.RequestLaws.{means_one, nothing_meant}
@@ -28,13 +31,19 @@ use Rattle.sigma_app.specs.Proof.{values, lines_of}
 use Rattle.sigma_app.specs.Page.{answer_text, end_text}
 use Rattle.sigma_app.specs.Files.{load_names}
 use Rattle.sigma_app.specs.CheckPage.{check_page}
+use Rattle.sigma_app.specs.ClausesPage.{clauses_page}
+use Rattle.sigma_app.specs.Snapshots.{clause_limit, snapshot_text, AreAllDiagnostics}
 use Rattle.sigma_app.proofs.PlaceLaws.{whole_apart}
-use Rattle.diagnose.proofs.OneListLaws.{one_list}
-use Rattle.sigma_app.specs.Tool.{Is, usage, not_built, absent_text, long_text, live_text, many_text, fault_in, syntax_text, has_option, found_page, Shows, SpellsQuery, OnForms, ShowsDiagnostics, Following, IsFaulty, OnTexts, OnParts, OnFiles, OnPaths, OnAsked, OnBuilt, HasMeaning, Tool}
+use Rattle.sigma_app.specs.Tool.{Is, usage, not_built, absent_text, long_text, live_text, many_text, fault_in, syntax_text, has_option, found_page, Shows, SpellsQuery, OnForms, OnChecked, OnClauses, IsSnapshotFull, Following, IsFaulty, OnTexts, OnParts, OnFiles, OnPaths, OnAsked, OnBuilt, HasMeaning, Tool}
 use Rattle.sigma_app.specs.Laws.{SameOutcome}
+use Rattle.sigma_app.proofs.TranslationLaws.{translations_one, full_once, not_full, all_diagnostics_one}
 
 is_one : (wanted : ℕ) (shown : Bytes) (status other : ℕ) (text page : Bytes) → Is wanted shown status text → Is wanted shown other page → SameOutcome status other text page
 is_one wanted shown status other text page a b = (a.done ∙ sym b.done, a.page_is ∙ sym b.page_is)
+
+named_one : {X : Type 0} (wanted : ℕ) (shown : X → Bytes) (path named : X) (status other : ℕ) (text page : Bytes) → path ≡ named → Is wanted (shown path) status text → Is wanted (shown named) other page
+    → SameOutcome status other text page
+named_one wanted shown path named status other text page e a b = (a.done ∙ sym b.done, a.page_is ∙ ap shown e ∙ sym b.page_is)
 
 -- ---- what the variables become
 
@@ -99,14 +108,27 @@ query_one text query other a b =
     let same : a.located ≡ b.located = cc in
     sym a.is ∙ ap (λ (l : Located). l.form) same ∙ b.is
 
+-- a fact stands past the limit, or there are not so many
+not_past : (facts : List Located) (past : Located) → slice_get facts clause_limit ≡ Some past → length facts ≤ clause_limit → ⊥
+not_past facts past stands within = let long = slice_get_within facts clause_limit past stands in omega (arith, long, within)
+
+past_one : (facts : List Located) (a b : Located) → slice_get facts clause_limit ≡ Some a → slice_get facts clause_limit ≡ Some b → a.place ≡ b.place
+past_one facts a b stands stand = let alike : Some a ≡ Some b = sym stands ∙ stand in let same : a ≡ b = cc in ap (λ (l : Located). l.place) same
+
 forms_one : (asked : Asked) (parts : List Part) (facts : List Located) (status other : ℕ) (text page : Bytes)
     → OnForms asked parts facts status text → OnForms asked parts facts other page → SameOutcome status other text page
 forms_one asked parts facts status other text page (inl a) (inl b) =
     shows_one parts facts b.query status other text page
     (subst (λ (q : Form). Shows parts facts q status text) (query_one asked.query a.query b.query a.plain.spelled b.plain.spelled) a.shown) b.shown
-forms_one asked parts facts status other text page (inl a) (inr b) = absurd (b.not_plain a.query a.plain)
-forms_one asked parts facts status other text page (inr a) (inl b) = absurd (a.not_plain b.query b.plain)
-forms_one asked parts facts status other text page (inr a) (inr b) = is_one 10 not_built status other text page a.is b.is
+forms_one asked parts facts status other text page (inl a) (inr (inl b)) = absurd (not_past facts b.past b.stands a.within)
+forms_one asked parts facts status other text page (inl a) (inr (inr b)) = absurd (b.not_plain a.query a.plain)
+forms_one asked parts facts status other text page (inr (inl a)) (inl b) = absurd (not_past facts a.past a.stands b.within)
+forms_one asked parts facts status other text page (inr (inl a)) (inr (inl b)) =
+    named_one 6 (λ (place : Place). snapshot_text (load_names parts) place) a.past.place b.past.place status other text page (past_one facts a.past b.past a.stands b.stands) a.is b.is
+forms_one asked parts facts status other text page (inr (inl a)) (inr (inr b)) = absurd (not_past facts a.past a.stands (b.within a.plain_facts))
+forms_one asked parts facts status other text page (inr (inr a)) (inl b) = absurd (a.not_plain b.query b.plain)
+forms_one asked parts facts status other text page (inr (inr a)) (inr (inl b)) = absurd (not_past facts b.past b.stands (a.within b.plain_facts))
+forms_one asked parts facts status other text page (inr (inr a)) (inr (inr b)) = is_one 10 not_built status other text page a.is b.is
 
 -- ---- the texts
 
@@ -225,10 +247,6 @@ missed_whole contents paths path parts reached missed whole = whole_at 1 reached
     whole_at at (first ∷ earlier) [] h = h
     whole_at at (first ∷ earlier) (p ∷ ps) h = whole_at (at + 1) earlier ps h.1
 
-named_one : (wanted : ℕ) (shown : Bytes → Bytes) (path named : Bytes) (status other : ℕ) (text page : Bytes) → path ≡ named → Is wanted (shown path) status text → Is wanted (shown named) other page
-    → SameOutcome status other text page
-named_one wanted shown path named status other text page e a b = (a.done ∙ sym b.done, a.page_is ∙ ap shown e ∙ sym b.page_is)
-
 -- ---- the forms, the texts and the files of a command
 
 module _ (Next : Following) (status other : ℕ) (text page : Bytes) (one : (parts : List Part) (forms : List Located) → PlacesDiffer forms → Next parts forms status text → Next parts forms other page → SameOutcome status other text page) where
@@ -299,18 +317,33 @@ asked_one asked contents status other text page a b = by_option (has_option aske
     by_option false x y =
         paths_one (OnForms asked) status other text page (λ parts forms apart c d. forms_one asked parts forms status other text page c d) asked.paths contents x y
 
-diagnostics_one : (parts : List Part) (forms : List Located) (status other : ℕ) (text page : Bytes) → PlacesDiffer forms
-    → ShowsDiagnostics parts forms status text → ShowsDiagnostics parts forms other page → SameOutcome status other text page
-diagnostics_one parts forms status other text page apart a b = (
-  a.is.done ∙ sym b.is.done,
-  a.is.page_is ∙ ap (check_page (load_names parts)) (one_list forms a.list b.list apart a.are b.are) ∙ sym b.is.page_is,
-)
+full_one : (parts : List Part) (forms : List Located) (status other : ℕ) (text page : Bytes) → IsSnapshotFull parts forms status text → IsSnapshotFull parts forms other page → SameOutcome status other text page
+full_one parts forms status other text page a b =
+    named_one 6 (λ (place : Place). snapshot_text (load_names parts) place) a.place b.place status other text page (full_once forms a.place b.place a.full b.full) a.is b.is
+
+checked_one : (parts : List Part) (forms : List Located) (status other : ℕ) (text page : Bytes) → PlacesDiffer forms
+    → OnChecked parts forms status text → OnChecked parts forms other page → SameOutcome status other text page
+checked_one parts forms status other text page apart (inl a) (inl b) =
+    let same = translations_one forms a.translated b.translated a.have b.have in
+    let list = all_diagnostics_one forms b.translated a.list b.list apart (subst (λ (t : Translated). AreAllDiagnostics forms t a.list) same a.are) b.are in
+    named_one 0 (check_page (load_names parts)) a.list b.list status other text page list a.is b.is
+checked_one parts forms status other text page apart (inl a) (inr b) = absurd (not_full forms a.translated b.place a.have b.full)
+checked_one parts forms status other text page apart (inr a) (inl b) = absurd (not_full forms b.translated a.place b.have a.full)
+checked_one parts forms status other text page apart (inr a) (inr b) = full_one parts forms status other text page a b
+
+clauses_one : (parts : List Part) (forms : List Located) (status other : ℕ) (text page : Bytes) → OnClauses parts forms status text → OnClauses parts forms other page → SameOutcome status other text page
+clauses_one parts forms status other text page (inl a) (inl b) =
+    named_one 0 (λ (t : Translated). clauses_page (load_names parts) t.inputs) a.translated b.translated status other text page (translations_one forms a.translated b.translated a.have b.have) a.is b.is
+clauses_one parts forms status other text page (inl a) (inr b) = absurd (not_full forms a.translated b.place a.have b.full)
+clauses_one parts forms status other text page (inr a) (inl b) = absurd (not_full forms b.translated a.place b.have a.full)
+clauses_one parts forms status other text page (inr a) (inr b) = full_one parts forms status other text page a b
 
 built_one : (meaning : Meaning) (contents : Contents) (status other : ℕ) (text page : Bytes) → OnBuilt meaning contents status text → OnBuilt meaning contents other page → SameOutcome status other text page
 built_one (asks asked) contents status other text page a b = asked_one asked contents status other text page a b
 built_one (checks files) contents status other text page a b =
-    paths_one ShowsDiagnostics status other text page (λ parts forms apart c d. diagnostics_one parts forms status other text page apart c d) files contents a b
-built_one (gives_clauses files) contents status other text page a b = is_one 10 not_built status other text page a b
+    paths_one OnChecked status other text page (λ parts forms apart c d. checked_one parts forms status other text page apart c d) files contents a b
+built_one (gives_clauses files) contents status other text page a b =
+    paths_one OnClauses status other text page (λ parts forms apart c d. clauses_one parts forms status other text page c d) files contents a b
 built_one (exports files) contents status other text page a b = is_one 10 not_built status other text page a b
 built_one (drills size) contents status other text page a b = is_one 10 not_built status other text page a b
 

@@ -9,7 +9,7 @@ use Rattle.sig_io.specs.Causes.{Rose}
 use Rattle.sigma_app.specs.declared.files.Part.{Part}
 use Rattle.sigma_app.specs.Requests.{Asked, Meaning, asks, checks, gives_clauses, exports, drills, paths, is_refused}
 use Rattle.sigma_app.specs.Files.{Contents, file_limit, live_limit, live_size}
-use Rattle.sigma_app.specs.Tool.{Is, usage, not_built, live_text, many_text, has_option, is_built, reads_files, Shows, OnForms, ShowsDiagnostics, Following, OnTexts, OnParts, OnFiles, OnPaths, OnAsked, OnBuilt, Tool, GivesTool}
+use Rattle.sigma_app.specs.Tool.{Is, usage, not_built, live_text, many_text, has_option, is_built, reads_files, Shows, OnForms, OnChecked, OnClauses, Following, OnTexts, OnParts, OnFiles, OnPaths, OnAsked, OnBuilt, Tool, GivesTool}
 use Rattle.sigma_app.proofs.EvidenceLaws.{shows_proof}
 use Rattle.sigma_app.specs.Run.{IsTrouble, IsCutShort, MayBeRefused, MustBeRefused, Appends, ReportsFault, AppendsPart, IsOwnReply, Obtains, PrintsPart, Printed}
 
@@ -50,7 +50,8 @@ shows_own parts facts query status text (inr shown) = fine status 1 shown.done r
 
 forms_own : (asked : Asked) (parts : List Part) (facts : List Located) (status : ℕ) (text : Bytes) → OnForms asked parts facts status text → IsOfFiles status
 forms_own asked parts facts status text (inl replies) = shows_own parts facts replies.query status text replies.shown
-forms_own asked parts facts status text (inr declines) = fine status 10 declines.is.done refl
+forms_own asked parts facts status text (inr (inl overflow)) = fine status 6 overflow.is.done refl
+forms_own asked parts facts status text (inr (inr declines)) = fine status 10 declines.is.done refl
 
 module _ (Next : Following) (status : ℕ) (text : Bytes) (own : (parts : List Part) (forms : List Located) → Next parts forms status text → IsOfFiles status) where
   texts_own : (parts : List Part) → OnTexts Next parts status text → IsOfFiles status
@@ -83,10 +84,18 @@ asked_own asked contents status text h = by_option (has_option asked) h
     by_option true x = fine status 10 x.done refl
     by_option false x = paths_own (OnForms asked) status text (λ parts forms follows. forms_own asked parts forms status text follows) asked.paths contents x
 
+checked_own : (parts : List Part) (forms : List Located) (status : ℕ) (text : Bytes) → OnChecked parts forms status text → IsOfFiles status
+checked_own parts forms status text (inl shown) = fine status 0 shown.is.done refl
+checked_own parts forms status text (inr full) = fine status 6 full.is.done refl
+
+clauses_own : (parts : List Part) (forms : List Located) (status : ℕ) (text : Bytes) → OnClauses parts forms status text → IsOfFiles status
+clauses_own parts forms status text (inl shown) = fine status 0 shown.is.done refl
+clauses_own parts forms status text (inr full) = fine status 6 full.is.done refl
+
 built_own : (meaning : Meaning) (contents : Contents) (status : ℕ) (text : Bytes) → OnBuilt meaning contents status text → IsOfFiles status
 built_own (asks asked) contents status text h = asked_own asked contents status text h
-built_own (checks files) contents status text h = paths_own ShowsDiagnostics status text (λ parts forms shown. fine status 0 shown.is.done refl) files contents h
-built_own (gives_clauses files) contents status text h = fine status 10 h.done refl
+built_own (checks files) contents status text h = paths_own OnChecked status text (λ parts forms shown. checked_own parts forms status text shown) files contents h
+built_own (gives_clauses files) contents status text h = paths_own OnClauses status text (λ parts forms shown. clauses_own parts forms status text shown) files contents h
 built_own (exports files) contents status text h = fine status 10 h.done refl
 built_own (drills size) contents status text h = fine status 10 h.done refl
 

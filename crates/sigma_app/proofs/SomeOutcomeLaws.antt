@@ -8,6 +8,7 @@ use Rattle.kif_tree.specs.declared.form.Form.{Form, out-Form, roll-Form, roll-ou
 use Rattle.kif_tree.specs.declared.form.Form.TheVariants as form
 use Rattle.kif_tree.specs.declared.form.Form.TheOpen.{Form-F}
 use Rattle.kif_tree.specs.declared.place.Located.{Located}
+use Rattle.kif_tree.specs.declared.place.Place.{Place}
 use Rattle.kif_tree.specs.declared.subst.Pair.{Pair}
 use Rattle.kif_tree.specs.Terms.{Bytes}
 use Rattle.sig_io.specs.Told.{body_of}
@@ -21,15 +22,15 @@ use Rattle.kif_reader.proofs.OneFaultLaws.{spells_no_fault}
 use Rattle.kif_reader.proofs.ReadingIsOneLaws.{spells_unique}
 use Rattle.kif_reader.proofs.SomeReadingLaws.{some_reading}
 use Rattle.sigma_app.specs.declared.files.Part.{Part}
-use Rattle.diagnose.specs.declared.diagnostic.Diagnostic.{Diagnostic}
-use Rattle.diagnose.specs.Diagnostics.{AreDiagnostics}
 use Rattle.sigma_app.specs.CheckPage.{check_page}
+use Rattle.sigma_app.specs.ClausesPage.{clauses_page}
 use Rattle.sigma_app.specs.Files.{Contents, byte_limit, file_limit, live_limit, AreWhole, live_size, load_names, SpellParts, HaveForms}
-use Rattle.sigma_app.specs.Laws.{Outcome, HaveDiagnostics}
+use Rattle.sigma_app.specs.Laws.{Outcome, Translating, AreTranslated, HaveTranslated}
+use Rattle.sigma_app.specs.Snapshots.{clause_limit, snapshot_text, AreFull}
 use Rattle.sigma_app.specs.Matching.{IsFlat, Fits, HasNoMatch, HasNoMatchIn, IsFirstMatch, matched}
 use Rattle.sigma_app.specs.Plain.{is_plain_word, is_plain_head, IsPlainArgument, IsPlainAtom}
-use Rattle.sigma_app.specs.Requests.{Asked, Meaning, asks, checks, gives_clauses, exports, drills, meaning, Means, is_refused}
-use Rattle.sigma_app.specs.Tool.{Is, usage, not_built, absent_text, long_text, live_text, many_text, fault_in, syntax_text, has_option, found_page, none_page, Shows, IsPlainFact, IsPlain, OnForms, ShowsDiagnostics, Following, HasFault, OnTexts, OnParts, OnFiles, OnPaths, OnBuilt, Tool}
+use Rattle.sigma_app.specs.Requests.{Asked, Meaning, asks, checks, gives_clauses, exports, drills, meaning, is_refused}
+use Rattle.sigma_app.specs.Tool.{Is, usage, not_built, absent_text, long_text, live_text, many_text, fault_in, syntax_text, has_option, found_page, none_page, Shows, IsPlainFact, IsPlain, OnForms, OnChecked, OnClauses, IsSnapshotFull, Following, HasFault, OnTexts, OnParts, OnFiles, OnPaths, OnBuilt, Tool}
 use Rattle.sigma_app.proofs.MatchLaws.{matched_fits, unmatched, unlisted}
 use Rattle.sigma_app.proofs.PlainLaws.{flat_atom}
 use Rattle.sigma_app.proofs.RequestLaws.{means_one, taken_meaning}
@@ -245,14 +246,31 @@ shows_by : (parts : List Part) (facts : List Located) (query : Form) → FirstOr
 shows_by parts facts query (inl (n, s, first)) = (0, found_page parts query first.fact s, inl (record { number = n; subst = s; first = first; done = refl; page = refl }))
 shows_by parts facts query (inr none) = (1, none_page, inr (record { none = none; done = refl; page = refl }))
 
-forms_by : (asked : Asked) (parts : List Part) (facts : List Located) → PlainOrNot asked facts → Outcome (OnForms asked parts facts)
-forms_by asked parts facts (inl (query, plain)) =
-    let shown = shows_by parts facts query (first_in query (flat_atom true query plain.plain_query) facts) in
-    (shown.0, shown.1, inl (record { query = query; plain = plain; shown = shown.2 }))
-forms_by asked parts facts (inr none) = (10, not_built, inr (record { not_plain = none; is = it_is 10 not_built }))
+none_past : (facts : List Located) (n : ℕ) → slice_get facts n ≡ None → length facts ≤ n
+none_past [] n e = omega arith
+none_past (fact ∷ facts) zero e = let no_way : Some fact ≡ None = e in absurd (cc)
+none_past (fact ∷ facts) (suc n) e = let fewer = none_past facts n e in omega (arith, fewer)
+
+module _ (asked : Asked) (parts : List Part) (facts : List Located) where
+  within_by : length facts ≤ clause_limit → PlainOrNot asked facts → Outcome (OnForms asked parts facts)
+  within_by within (inl (query, plain)) =
+      let shown = shows_by parts facts query (first_in query (flat_atom true query plain.plain_query) facts) in
+      (shown.0, shown.1, inl (record { within = within; query = query; plain = plain; shown = shown.2 }))
+  within_by within (inr none) = (10, not_built, inr (inr (record { not_plain = none; within = λ plain. within; is = it_is 10 not_built })))
+
+  past_by : Each IsPlainFact facts → (o : Option Located) → slice_get facts clause_limit ≡ o → Outcome (OnForms asked parts facts)
+  past_by plain None e = within_by (none_past facts clause_limit e) (plain_by asked facts (inl plain))
+  past_by plain (Some past) e =
+      let page = snapshot_text (load_names parts) past.place in
+      (6, page, inr (inl (record { plain_facts = plain; past = past; stands = e; is = it_is 6 page })))
+
+  forms_by : Known (Each IsPlainFact facts) → Outcome (OnForms asked parts facts)
+  forms_by (inl plain) = past_by plain (slice_get facts clause_limit) refl
+  forms_by (inr none) =
+      (10, not_built, inr (inr (record { not_plain = λ query is. none is.plain_facts; within = λ plain. absurd (none plain); is = it_is 10 not_built })))
 
 forms_some : (asked : Asked) (parts : List Part) (facts : List Located) → Outcome (OnForms asked parts facts)
-forms_some asked parts facts = forms_by asked parts facts (plain_by asked facts (each_known IsPlainFact (λ fact. atom_known false fact.form) facts))
+forms_some asked parts facts = forms_by asked parts facts (each_known IsPlainFact (λ fact. atom_known false fact.form) facts)
 
 -- ---- the texts
 
@@ -424,44 +442,72 @@ option_by : (asked : Asked) (contents : Contents) (option : Bool)
 option_by asked contents true = (10, not_built, it_is 10 not_built)
 option_by asked contents false = paths_some (OnForms asked) contents asked.paths (λ parts forms have. forms_some asked parts forms)
 
-diagnostics_some : (parts : List Part) (forms : List Located) → (list : List Diagnostic) × AreDiagnostics forms list → Outcome (ShowsDiagnostics parts forms)
-diagnostics_some parts forms (list, are) =
+full_some : (parts : List Part) (forms : List Located) (place : Place) → AreFull forms place → Outcome (IsSnapshotFull parts forms)
+full_some parts forms place full =
+    let page = snapshot_text (load_names parts) place in
+    (6, page, record { place = place; full = full; is = it_is 6 page })
+
+checked_some : (parts : List Part) (forms : List Located) → AreTranslated forms → Outcome (OnChecked parts forms)
+checked_some parts forms (inl (place, full)) = let shown = full_some parts forms place full in (shown.0, shown.1, inr shown.2)
+checked_some parts forms (inr (translated, have, (list, are))) =
     let page = check_page (load_names parts) list in
-    (0, page, record { list = list; are = are; is = it_is 0 page })
+    (0, page, inl (record { translated = translated; have = have; list = list; are = are; is = it_is 0 page }))
 
--- where the value is a check, the forms of its files have a list of diagnostics
-abbrev Listed : Meaning → Contents → Type 0
-Listed value contents = (files : List Bytes) → value ≡ checks files → HaveDiagnostics contents files
+clauses_some : (parts : List Part) (forms : List Located) → AreTranslated forms → Outcome (OnClauses parts forms)
+clauses_some parts forms (inl (place, full)) = let shown = full_some parts forms place full in (shown.0, shown.1, inr shown.2)
+clauses_some parts forms (inr (translated, have, (list, are))) =
+    let page = clauses_page (load_names parts) translated.inputs in
+    (0, page, inl (record { translated = translated; have = have; is = it_is 0 page }))
 
-built_some : (value : Meaning) (contents : Contents) → Listed value contents → Outcome (OnBuilt value contents)
-built_some (asks asked) contents listed = option_by asked contents (has_option asked)
-built_some (checks files) contents listed = paths_some ShowsDiagnostics contents files (λ parts forms have. diagnostics_some parts forms (listed files refl parts forms have))
-built_some (gives_clauses files) contents listed = (10, not_built, it_is 10 not_built)
-built_some (exports files) contents listed = (10, not_built, it_is 10 not_built)
-built_some (drills size) contents listed = (10, not_built, it_is 10 not_built)
+-- where the value is a check or asks for clauses, the forms of its files have a translation, or too many clauses
+abbrev Readied : Meaning → Contents → Type 0
+Readied value contents = (files : List Bytes) → (value ≡ checks files) ⊎ (value ≡ gives_clauses files) → HaveTranslated contents files
 
-refused_by : (value : Meaning) (contents : Contents) → Listed value contents → (refused : Bool)
+built_some : (value : Meaning) (contents : Contents) → Readied value contents → Outcome (OnBuilt value contents)
+built_some (asks asked) contents readied = option_by asked contents (has_option asked)
+built_some (checks files) contents readied = paths_some OnChecked contents files (λ parts forms have. checked_some parts forms (readied files (inl refl) parts forms have))
+built_some (gives_clauses files) contents readied = paths_some OnClauses contents files (λ parts forms have. clauses_some parts forms (readied files (inr refl) parts forms have))
+built_some (exports files) contents readied = (10, not_built, it_is 10 not_built)
+built_some (drills size) contents readied = (10, not_built, it_is 10 not_built)
+
+refused_by : (value : Meaning) (contents : Contents) → Readied value contents → (refused : Bool)
     → Outcome (λ status text. MatchBool refused (Is 2 usage status text) (OnBuilt value contents status text))
-refused_by value contents listed true = (2, usage, it_is 2 usage)
-refused_by value contents listed false = built_some value contents listed
+refused_by value contents readied true = (2, usage, it_is 2 usage)
+refused_by value contents readied false = built_some value contents readied
 
-meaning_by : (words : List Bytes) (contents : Contents) → ((files : List Bytes) → Means words (checks files) → HaveDiagnostics contents files) → (o : Option Meaning) → meaning words ≡ o
+-- words that mean a value which is a check or asks for clauses
+translating : (words : List Bytes) (value : Meaning) (files : List Bytes) → meaning words ≡ Some value → (value ≡ checks files) ⊎ (value ≡ gives_clauses files) → Translating words files
+translating words value files means (inl e) = inl (means ∙ ap Some e)
+translating words value files means (inr e) = inr (means ∙ ap Some e)
+
+meaning_by : (words : List Bytes) (contents : Contents) → ((files : List Bytes) → Translating words files → HaveTranslated contents files) → (o : Option Meaning) → meaning words ≡ o
     → Outcome (Tool words contents)
-meaning_by words contents listed None none =
+meaning_by words contents readied None none =
     (2, usage, inr (record { not_taken = λ taken. (let some = taken_meaning words taken in let no_way : None ≡ Some some.0 = sym none ∙ some.1 in cc); is = it_is 2 usage }))
-meaning_by words contents listed (Some value) means =
-    let on_meaning = refused_by value contents (λ files e. listed files (means ∙ ap Some e)) (is_refused value) in
+meaning_by words contents readied (Some value) means =
+    let on_meaning = refused_by value contents (λ files e. readied files (translating words value files means e)) (is_refused value) in
     (on_meaning.0, on_meaning.1, inl (record { meaning = value; means = means; on_meaning = on_meaning.2 }))
 
--- words that don't mean a check
-pub some_outcome : (words : List Bytes) (contents : Contents) → ((files : List Bytes) → Means words (checks files) → ⊥) → Outcome (Tool words contents)
+-- words for which no translation is needed
+pub some_outcome : (words : List Bytes) (contents : Contents) → ((files : List Bytes) → Translating words files → ⊥) → Outcome (Tool words contents)
 some_outcome words contents none = meaning_by words contents (λ files means. absurd (none files means)) (meaning words) refl
 
-same_files : (files others : List Bytes) → checks files ≡ checks others → files ≡ others
-same_files files others e = cc
+same_checked : (files others : List Bytes) → checks files ≡ checks others → files ≡ others
+same_checked files others e = cc
 
--- words that mean a check
-pub check_outcome : (words : List Bytes) (contents : Contents) (files : List Bytes) → Means words (checks files) → HaveDiagnostics contents files → Outcome (Tool words contents)
-check_outcome words contents files means have =
-    meaning_by words contents
-    (λ others other. subst (HaveDiagnostics contents) (same_files files others (means_one words (checks files) (checks others) means other)) have) (meaning words) refl
+same_given : (files others : List Bytes) → gives_clauses files ≡ gives_clauses others → files ≡ others
+same_given files others e = cc
+
+apart : (files others : List Bytes) → checks files ≡ gives_clauses others → ⊥
+apart files others e = cc
+
+same_files : (words files others : List Bytes) → Translating words files → Translating words others → files ≡ others
+same_files words files others (inl a) (inl b) = same_checked files others (means_one words (checks files) (checks others) a b)
+same_files words files others (inl a) (inr b) = absurd (apart files others (means_one words (checks files) (gives_clauses others) a b))
+same_files words files others (inr a) (inl b) = absurd (apart others files (means_one words (checks others) (gives_clauses files) b a))
+same_files words files others (inr a) (inr b) = same_given files others (means_one words (gives_clauses files) (gives_clauses others) a b)
+
+-- words for which one is, of forms that have it
+pub translated_outcome : (words : List Bytes) (contents : Contents) (files : List Bytes) → Translating words files → HaveTranslated contents files → Outcome (Tool words contents)
+translated_outcome words contents files means have =
+    meaning_by words contents (λ others other. subst (HaveTranslated contents) (same_files words files others means other) have) (meaning words) refl

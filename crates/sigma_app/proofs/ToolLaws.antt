@@ -1,6 +1,6 @@
 -- How a reply is put together, and why it is the tool's.
 use Rattle.std.proofs.Common.{◌≡◌, ℕ, ◌<◌, ◌⊎◌, List, [], ◌++◌, map, length, get_or, Bool, true, false, not, ◌&&◌, nat_le, Option, Some, None, Result, Ok, Err, codes, ◌≤◌, inl, inr, refl, sym, ap, ap₂, ◌∙◌, subst, arith}
-use Rattle.std.specs.Prelude.{slice_get, IfOk, MatchBool}
+use Rattle.std.specs.Prelude.{slice_get, IfOk, MatchBool, MatchOption}
 use Rattle.std.specs.Borrow.{Bor}
 use Rattle.std.proofs.lemmas.Option.{slice_get_read}
 use Rattle.std.proofs.lemmas.List.{length-map}
@@ -27,7 +27,8 @@ use Rattle.sigma_base.specs.declared.memory.NoMemory.{NoMemory}
 use Rattle.sigma_app.specs.Requests.{Asked, texts, Meaning, asks, checks, gives_clauses, exports, drills, paths, Means, IsTaken, is_refused}
 use Rattle.sigma_app.specs.Plain.{IsPlainAtom}
 use Rattle.sigma_app.specs.Files.{Contents, file_limit, live_limit, AreWhole, AreShort, live_size, load_names, SpellParts}
-use Rattle.sigma_app.specs.Tool.{Is, usage, not_built, live_text, many_text, has_option, is_built, reads_files, found_page, Shows, SpellsQuery, IsPlainFact, IsPlain, OnForms, ShowsDiagnostics, Following, Nothing, HasFault, OnTexts, OnParts, GathersParts, IsAbsent, IsTooLong, OnFiles, OnPaths, OnAsked, OnBuilt, HasMeaning}
+use Rattle.sigma_app.specs.Snapshots.{clause_limit, snapshot_text}
+use Rattle.sigma_app.specs.Tool.{Is, usage, not_built, live_text, many_text, has_option, is_built, reads_files, found_page, Shows, SpellsQuery, IsPlainFact, IsPlain, OnForms, OnChecked, OnClauses, Following, Nothing, HasFault, OnTexts, OnParts, GathersParts, IsAbsent, IsTooLong, OnFiles, OnPaths, OnAsked, OnBuilt, HasMeaning}
 use Rattle.sigma_app.specs.Run.{Over, Fails, Fetches, OnFewFiles, OnNamedFiles, Gathers, OnAsk, OnGoodRequest, OnRequest, Obtains}
 use Rattle.sigma_app.proofs.FileLaws.{whole_short, whole_length}
 use Rattle.sigma_app.proofs.PlaceLaws.{whole_apart}
@@ -62,16 +63,36 @@ shown_found parts facts query number s item page first lt is e =
 abbrev Replied : Type 0
 Replied = Result Reply NoMemory
 
-pub replies : (asked : Asked) (parts : List Part) (facts : List Located) (query : Form) → Each IsPlainFact facts → SpellsQuery asked.query query × IsPlainAtom true query
+pub replies : (asked : Asked) (parts : List Part) (facts : List Located) (query : Form) → Each IsPlainFact facts → length facts ≤ clause_limit → SpellsQuery asked.query query × IsPlainAtom true query
     → (r : Replied) → IfOk r (λ reply. Shows parts facts query reply.status reply.text) → IfOk r (λ reply. OnForms asked parts facts reply.status reply.text)
-replies asked parts facts query plain (spelled, plain_query) (Ok reply) shown =
-    inl (record { query = query; plain = record { plain_facts = plain; spelled = spelled; plain_query = plain_query }; shown = shown })
-replies asked parts facts query plain read (Err error) shown = tt
+replies asked parts facts query plain within (spelled, plain_query) (Ok reply) shown =
+    inl (record { within = within; query = query; plain = record { plain_facts = plain; spelled = spelled; plain_query = plain_query }; shown = shown })
+replies asked parts facts query plain within read (Err error) shown = tt
 
-pub declines : (asked : Asked) (parts : List Part) (facts : List Located) → ((query : Form) → IsPlain asked facts query → ⊥)
+-- a form isn't plain
+pub declines_forms : (asked : Asked) (parts : List Part) (facts : List Located) → (Each IsPlainFact facts → ⊥)
     → (r : Replied) → IfOk r (λ reply. Is 10 not_built reply.status reply.text) → IfOk r (λ reply. OnForms asked parts facts reply.status reply.text)
-declines asked parts facts none (Ok reply) is = inr (record { not_plain = none; is = is })
-declines asked parts facts none (Err error) is = tt
+declines_forms asked parts facts none (Ok reply) is = inr (inr (record { not_plain = λ query plain. none plain.plain_facts; within = λ plain. absurd (none plain); is = is }))
+declines_forms asked parts facts none (Err error) is = tt
+
+pub declines : (asked : Asked) (parts : List Part) (facts : List Located) → length facts ≤ clause_limit → ((query : Form) → IsPlain asked facts query → ⊥)
+    → (r : Replied) → IfOk r (λ reply. Is 10 not_built reply.status reply.text) → IfOk r (λ reply. OnForms asked parts facts reply.status reply.text)
+declines asked parts facts within none (Ok reply) is = inr (inr (record { not_plain = none; within = λ plain. within; is = is }))
+declines asked parts facts within none (Err error) is = tt
+
+pub overflows : (asked : Asked) (parts : List Part) (facts : List Located) (past : Located) (names : List LoadName) → Each IsPlainFact facts → slice_get facts clause_limit ≡ Some past
+    → names ≡ load_names parts → (r : Replied) → IfOk r (λ reply. Is 6 (snapshot_text names past.place) reply.status reply.text) → IfOk r (λ reply. OnForms asked parts facts reply.status reply.text)
+overflows asked parts facts past names plain stands named (Ok reply) is =
+    inr (inl (record { plain_facts = plain; past = past; stands = stands; is = subst (λ (ns : List LoadName). Is 6 (snapshot_text ns past.place) reply.status reply.text) named is }))
+overflows asked parts facts past names plain stands named (Err error) is = tt
+
+-- the fact past the limit, or none
+pub past_stands : (facts : List Located) (past : Located) → clause_limit < length facts → past ≡ get_or facts clause_limit past → slice_get facts clause_limit ≡ Some past
+past_stands facts past long is = slice_get_read facts _ clause_limit past refl long is
+
+pub none_stands : (facts : List Located) (got : Option (Bor Located)) (P : Bor Located → Type 0) → ((past : Bor Located) → got ≡ Some past → ⊥) → MatchOption got (length facts ≤ clause_limit) P → length facts ≤ clause_limit
+none_stands facts (Some past) P none is = absurd (none past refl)
+none_stands facts None P none is = is
 
 -- ---- over the parts
 
@@ -344,9 +365,8 @@ module _ (words : List Bytes) (told : Option Contents) (before now status : ℕ)
 
   good_obtains : (meaning : Meaning) → Means words meaning → is_refused meaning ≡ false → OnGoodRequest meaning told before now status text → Obtains words told before now status text
   good_obtains (asks asked) means good h = asked_obtains asked means good h
-  good_obtains (checks files) means good h = over_paths words (checks files) told before now status text means ShowsDiagnostics good refl (λ contents x. x) h
-  good_obtains (gives_clauses files) means good (quiet, is) =
-      unread words (gives_clauses files) told before now status text means (λ contents. meant words (gives_clauses files) told before now status text means false contents good is) quiet
+  good_obtains (checks files) means good h = over_paths words (checks files) told before now status text means OnChecked good refl (λ contents x. x) h
+  good_obtains (gives_clauses files) means good h = over_paths words (gives_clauses files) told before now status text means OnClauses good refl (λ contents x. x) h
   good_obtains (exports files) means good (quiet, is) =
       unread words (exports files) told before now status text means (λ contents. meant words (exports files) told before now status text means false contents good is) quiet
   good_obtains (drills size) means good (quiet, is) =

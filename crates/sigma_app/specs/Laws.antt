@@ -5,10 +5,12 @@ use Rattle.kif_tree.specs.Terms.{Bytes, is_ground, has_no_row}
 use Rattle.kif_tree.specs.Clauses.{is_headed}
 use Rattle.sigma_app.specs.Plain.{is_plain_head, IsPlainAtom}
 use Rattle.diagnose.specs.declared.diagnostic.Diagnostic.{Diagnostic}
-use Rattle.diagnose.specs.Diagnostics.{AreDiagnostics}
+use Rattle.translate.specs.declared.translated.Translated.{Translated}
+use Rattle.sigma_app.specs.Snapshots.{HaveTranslation, AreFull, AreAllDiagnostics}
 use Rattle.kif_tree.specs.declared.place.Located.{Located}
+use Rattle.kif_tree.specs.declared.place.Place.{Place}
 use Rattle.sigma_app.specs.declared.files.Part.{Part}
-use Rattle.sigma_app.specs.Requests.{checks, Means, IsTaken, NamesNone}
+use Rattle.sigma_app.specs.Requests.{checks, gives_clauses, Means, IsTaken, NamesNone}
 use Rattle.sigma_app.specs.Files.{Contents, HaveForms}
 use Rattle.sigma_app.specs.Tool.{Is, usage, Tool}
 
@@ -16,18 +18,28 @@ use Rattle.sigma_app.specs.Tool.{Is, usage, Tool}
 abbrev pub Outcome : (ℕ → Bytes → Type 0) → Type 0
 Outcome Gives = (status : ℕ) × (text : Bytes) × Gives status text
 
--- the tool has an outcome for every list of words that don't mean a check, whatever the files hold
+-- the words mean a check of these files, or ask for their clauses
+abbrev pub Translating : List Bytes → List Bytes → Type 0
+Translating words files = Means words (checks files) ⊎ Means words (gives_clauses files)
+
+-- the tool has an outcome for every list of words for which no translation is needed, whatever the files hold
 abbrev pub ToolAnswers : Type 0
-ToolAnswers = (words : List Bytes) (contents : Contents) → ((files : List Bytes) → Means words (checks files) → ⊥) → Outcome (Tool words contents)
+ToolAnswers = (words : List Bytes) (contents : Contents) → ((files : List Bytes) → Translating words files → ⊥) → Outcome (Tool words contents)
 
--- the forms of the files, where all is well with these, have a list of diagnostics
-abbrev pub HaveDiagnostics : Contents → List Bytes → Type 0
-HaveDiagnostics contents files = (parts : List Part) (forms : List Located) → HaveForms contents files parts forms → (list : List Diagnostic) × AreDiagnostics forms list
+-- the forms have a translation and a list of diagnostics, or more clauses than a snapshot may have
+abbrev pub AreTranslated : List Located → Type 0
+AreTranslated forms =
+    ((place : Place) × AreFull forms place)
+    ⊎ ((translated : Translated) × HaveTranslation forms translated × ((list : List Diagnostic) × AreAllDiagnostics forms translated list))
 
--- The tool has an outcome for a check of files whose forms have a list of diagnostics. That all forms have one is no law of the definitions:
--- it is known of those for which a run of the tool found the list.
-abbrev pub ChecksAnswer : Type 0
-ChecksAnswer = (words : List Bytes) (contents : Contents) (files : List Bytes) → Means words (checks files) → HaveDiagnostics contents files → Outcome (Tool words contents)
+-- the forms of the files, where all is well with these, are such forms
+abbrev pub HaveTranslated : Contents → List Bytes → Type 0
+HaveTranslated contents files = (parts : List Part) (forms : List Located) → HaveForms contents files parts forms → AreTranslated forms
+
+-- The tool has an outcome for a check of such files, and for their clauses. That all forms are such is no law of the definitions: it is
+-- known of those for which a run of the tool found it.
+abbrev pub TranslationsAnswer : Type 0
+TranslationsAnswer = (words : List Bytes) (contents : Contents) (files : List Bytes) → Translating words files → HaveTranslated contents files → Outcome (Tool words contents)
 
 abbrev pub SameOutcome : ℕ → ℕ → Bytes → Bytes → Type 0
 SameOutcome status other text page = (status ≡ other) × (text ≡ page)

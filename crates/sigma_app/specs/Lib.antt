@@ -1,4 +1,5 @@
 pub mod CheckPage
+pub mod ClausesPage
 pub mod Commands
 pub mod Evidence
 pub mod Files
@@ -9,4 +10,5 @@ pub mod Plain
 pub mod Proof
 pub mod Requests
 pub mod Run
+pub mod Snapshots
 pub mod Tool

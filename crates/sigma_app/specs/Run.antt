@@ -13,7 +13,7 @@ use Rattle.sigma_app.specs.declared.gather.Gathering.TheVariants as gathering
 use Rattle.sigma_app.specs.Requests.{Asked, Meaning, asks, checks, gives_clauses, exports, drills, Means, IsTaken, is_refused}
 use Rattle.sigma_app.specs.Files.{Contents, byte_limit, file_limit, AreWhole, IsReached, HaveForms}
 use Rattle.sigma_app.specs.Evidence.{ShowsProof}
-use Rattle.sigma_app.specs.Tool.{Is, usage, not_built, many_text, has_option, reads_files, absent_text, long_text, fault_text, IsAbsent, IsTooLong, Following, Nothing, OnForms, ShowsDiagnostics, OnFiles, Agrees, GivesTool, IsFault}
+use Rattle.sigma_app.specs.Tool.{Is, usage, not_built, many_text, has_option, reads_files, absent_text, long_text, fault_text, IsAbsent, IsTooLong, Following, Nothing, OnForms, OnChecked, OnClauses, OnFiles, Agrees, GivesTool, IsFault}
 
 -- a status that tells of the outside or of memory: a fault of the files, a failed write, want of memory
 abbrev pub IsTrouble : ℕ → Type 0
@@ -133,8 +133,8 @@ OnAsk asked told before now status text =
 -- a request whose words are good
 abbrev pub OnGoodRequest : Meaning → Option Contents → ℕ → ℕ → ℕ → Bytes → Type 0
 OnGoodRequest (asks asked) told before now status text = OnAsk asked told before now status text
-OnGoodRequest (checks paths) told before now status text = OnNamedFiles ShowsDiagnostics paths told before now status text
-OnGoodRequest (gives_clauses paths) told before now status text = (now ≡ before) × Is 10 not_built status text
+OnGoodRequest (checks paths) told before now status text = OnNamedFiles OnChecked paths told before now status text
+OnGoodRequest (gives_clauses paths) told before now status text = OnNamedFiles OnClauses paths told before now status text
 OnGoodRequest (exports paths) told before now status text = (now ≡ before) × Is 10 not_built status text
 OnGoodRequest (drills size) told before now status text = (now ≡ before) × Is 10 not_built status text
 

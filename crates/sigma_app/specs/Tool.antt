@@ -1,8 +1,9 @@
 -- What the tool answers: a status and a text, from the words and what the files hold.
-use Rattle.std.specs.Prelude.{◌≡◌, ℕ, nat_le, Bool, true, false, ◌||◌, List, [], ◌∷◌, ◌++◌, length, Option, Some, None, is_some, MatchBool, IfSome, codes, decimal, ◌⊎◌, not, ◌&&◌}
+use Rattle.std.specs.Prelude.{◌≡◌, ℕ, nat_le, Bool, true, false, ◌||◌, List, [], ◌∷◌, ◌++◌, length, Option, Some, None, is_some, MatchBool, IfSome, codes, decimal, ◌⊎◌, ◌≤◌, slice_get, not, ◌&&◌}
 use Rattle.sigma_base.specs.Lists.{Each}
 use Rattle.kif_tree.specs.declared.form.Form.{Form}
 use Rattle.kif_tree.specs.declared.place.Located.{Located}
+use Rattle.kif_tree.specs.declared.place.Place.{Place}
 use Rattle.kif_tree.specs.declared.subst.Pair.{Pair}
 use Rattle.kif_tree.specs.Terms.{Bytes}
 use Rattle.kif_reader.specs.declared.bytes.Spot.{Spot}
@@ -11,7 +12,7 @@ use Rattle.kif_reader.specs.declared.kinds.ReadError.TheVariants as unread
 use Rattle.kif_reader.specs.Spelling.{Spells, FirstFault}
 use Rattle.sig_io.specs.Told.{body_of}
 use Rattle.diagnose.specs.declared.diagnostic.Diagnostic.{Diagnostic}
-use Rattle.diagnose.specs.Diagnostics.{AreDiagnostics}
+use Rattle.translate.specs.declared.translated.Translated.{Translated}
 use Rattle.sigma_app.specs.Requests as requests
 use Rattle.sigma_app.specs.Requests.{Asked, Meaning, asks, checks, gives_clauses, exports, drills, Means, IsTaken, is_refused}
 use Rattle.sigma_app.specs.Plain.{IsPlainAtom}
@@ -25,6 +26,10 @@ use Rattle.sigma_app.specs.Matching.{IsFirstMatch, HasNoMatchIn, binding}
 use Rattle.sigma_app.specs.Proof.{values, lines_of}
 use Rattle.sigma_app.specs.Page.{answer_text, end_text}
 use Rattle.sigma_app.specs.CheckPage.{check_page}
+use Rattle.sigma_app.specs.ClausesPage.{clauses_page}
+use Rattle.sigma_app.specs.Snapshots.{clause_limit, snapshot_text, HaveTranslation, AreFull, AreAllDiagnostics}
+use Rattle.sigma_app.specs.declared.check.Translation.{Translation}
+use Rattle.sigma_app.specs.declared.check.Translation.TheVariants as translation
 
 -- ---- texts
 
@@ -132,32 +137,66 @@ pub record IsPlain (asked : Asked) (facts : List Located) (query : Form) : Type 
   pub plain_query : IsPlainAtom true query
 
 pub record Replies (asked : Asked) (parts : List Part) (facts : List Located) (status : ℕ) (text : Bytes) : Type 0 where
+  pub within : length facts ≤ clause_limit
   pub query : Form
   pub plain : IsPlain asked facts query
   pub shown : Shows parts facts query status text
 
--- a form or the query is not plain, or the query is not spelled
+-- the facts are plain, each is one clause, and with this one there are too many
+pub record Overflow (parts : List Part) (facts : List Located) (status : ℕ) (text : Bytes) : Type 0 where
+  pub plain_facts : Each IsPlainFact facts
+  pub past : Located
+  pub stands : slice_get facts clause_limit ≡ Some past
+  pub is : Is 6 (snapshot_text (load_names parts) past.place) status text
+
+-- a form is not plain, or all are, there are not too many, and the query is not plain or not spelled
 pub record Declines (asked : Asked) (facts : List Located) (status : ℕ) (text : Bytes) : Type 0 where
   pub not_plain : (query : Form) → IsPlain asked facts query → ⊥
+  pub within : Each IsPlainFact facts → length facts ≤ clause_limit
   pub is : Is 10 not_built status text
 
 -- a query over the forms of all files
 abbrev pub OnForms : Asked → List Part → List Located → ℕ → Bytes → Type 0
-OnForms asked parts facts status text = Replies asked parts facts status text ⊎ Declines asked facts status text
+OnForms asked parts facts status text = Replies asked parts facts status text ⊎ (Overflow parts facts status text ⊎ Declines asked facts status text)
 
--- ---- a check
+-- ---- a check, and clauses
+
+-- with the form at a place there are more clauses than a snapshot may have
+pub record IsSnapshotFull (parts : List Part) (forms : List Located) (status : ℕ) (text : Bytes) : Type 0 where
+  pub place : Place
+  pub full : AreFull forms place
+  pub is : Is 6 (snapshot_text (load_names parts) place) status text
 
 -- the page of all diagnostics of the forms of all files
 pub record ShowsDiagnostics (parts : List Part) (forms : List Located) (status : ℕ) (text : Bytes) : Type 0 where
+  pub translated : Translated
+  pub have : HaveTranslation forms translated
   pub list : List Diagnostic
-  pub are : AreDiagnostics forms list
+  pub are : AreAllDiagnostics forms translated list
   pub is : Is 0 (check_page (load_names parts) list) status text
+
+-- the page of the clauses of the forms of all files
+pub record ShowsClauses (parts : List Part) (forms : List Located) (status : ℕ) (text : Bytes) : Type 0 where
+  pub translated : Translated
+  pub have : HaveTranslation forms translated
+  pub is : Is 0 (clauses_page (load_names parts) translated.inputs) status text
+
+-- what the translation of the forms gives
+abbrev pub Translates : List Part → List Located → Translation → Type 0
+Translates parts forms (translation.Made translated) = HaveTranslation forms translated
+Translates parts forms (translation.Stopped reply) = IsSnapshotFull parts forms reply.status reply.text
 
 -- ---- the texts of the files
 
 -- what a command does with the forms of all files, once these are read
 abbrev pub Following : Type 1
 Following = List Part → List Located → ℕ → Bytes → Type 0
+
+abbrev pub OnChecked : Following
+OnChecked parts forms status text = ShowsDiagnostics parts forms status text ⊎ IsSnapshotFull parts forms status text
+
+abbrev pub OnClauses : Following
+OnClauses parts forms status text = ShowsClauses parts forms status text ⊎ IsSnapshotFull parts forms status text
 
 -- nothing follows
 abbrev pub Nothing : Following
@@ -246,11 +285,11 @@ OnPaths Next paths contents status text =
 abbrev pub OnAsked : Asked → Contents → ℕ → Bytes → Type 0
 OnAsked asked contents status text = MatchBool (has_option asked) (Is 10 not_built status text) (OnPaths (OnForms asked) asked.paths contents status text)
 
--- what the words mean is built: a query without options, or a check
+-- what the words mean is built: a query without options, a check, or clauses
 abbrev pub is_built : Meaning → Bool
 is_built (asks asked) = not (has_option asked)
 is_built (checks paths) = true
-is_built (gives_clauses paths) = false
+is_built (gives_clauses paths) = true
 is_built (exports paths) = false
 is_built (drills size) = false
 
@@ -261,8 +300,8 @@ reads_files meaning = not (is_refused meaning) && (is_built meaning && nat_le (l
 -- the other commands are not built
 abbrev pub OnBuilt : Meaning → Contents → ℕ → Bytes → Type 0
 OnBuilt (asks asked) contents status text = OnAsked asked contents status text
-OnBuilt (checks paths) contents status text = OnPaths ShowsDiagnostics paths contents status text
-OnBuilt (gives_clauses paths) contents status text = Is 10 not_built status text
+OnBuilt (checks paths) contents status text = OnPaths OnChecked paths contents status text
+OnBuilt (gives_clauses paths) contents status text = OnPaths OnClauses paths contents status text
 OnBuilt (exports paths) contents status text = Is 10 not_built status text
 OnBuilt (drills size) contents status text = Is 10 not_built status text
 

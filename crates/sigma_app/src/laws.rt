@@ -2,11 +2,11 @@
 ghost use Rattle.sigma_app.specs.Laws as laws;
 ghost use Rattle.sigma_app.specs.Requests as requests;
 
-/// The tool gives a status and a text for all words and files, and the same ones for the same. For a check, it gives them where the forms
-/// have a list of diagnostics. For words that the promise of the parser of command lines doesn't take, the other outcome is the usage.
+/// The tool gives a status and a text for all words and files, and the same ones for the same. For a check and for clauses it gives them
+/// where the forms have a translation and a list of diagnostics, or too many clauses. For words that the promise of the parser of command lines doesn't take, the other outcome is the usage.
 pub fn one_outcome_law()
     ensures some { laws.ToolAnswers }
-    ensures checks { laws.ChecksAnswer }
+    ensures translations { laws.TranslationsAnswer }
     ensures one { laws.ToolIsOne }
     ensures others { laws.OthersGetUsage }
 {}

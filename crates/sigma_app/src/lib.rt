@@ -3,6 +3,7 @@
 
 mod check;
 mod check_page;
+mod clauses_page;
 mod commands;
 mod files;
 mod forms;
@@ -25,5 +26,7 @@ pub use tool::run_tool;
 mod tests;
 #[cfg(test)]
 mod tests_check;
+#[cfg(test)]
+mod tests_clauses;
 #[cfg(test)]
 mod tests_requests;

@@ -1,9 +1,11 @@
 //! A reply of the tool: a status and the text that is printed with it.
 ghost use Rattle.std.specs.Prelude.{◌≡◌, ◌++◌, ◌∷◌, [], IfOk, Some, decimal};
+ghost use Rattle.sigma_app.specs.Snapshots.{snapshot_text};
 ghost use Rattle.sigma_app.specs.Tool as spec;
 
+use crate::places::append_place;
 use kif_reader::{ReadError, Spot};
-use kif_tree::Text;
+use kif_tree::{LoadName, Place, Text};
 use sigma_base::NoMemory;
 use std::alloc::Global;
 
@@ -40,6 +42,16 @@ pub fn limit_reply(alloc: Global, words: &[u8], number: u64) -> Result<Reply, No
 {
     let mut text = Text::of(alloc, words)?;
     text.append_decimal(number)?;
+    text.push(b'\n')?;
+    Ok(Reply { status: 6, text })
+}
+
+/// With the form at the place there are more clauses than a snapshot may have.
+pub fn snapshot_reply(alloc: Global, names: &[LoadName], place: &Place) -> Result<Reply, NoMemory>
+    ensures { IfOk result (λ reply. spec.Is 6 (snapshot_text names.now place.now) reply.status reply.text) }
+{
+    let mut text = Text::of(alloc, b"limit snapshot ")?;
+    append_place(&mut text, names, place)?;
     text.push(b'\n')?;
     Ok(Reply { status: 6, text })
 }

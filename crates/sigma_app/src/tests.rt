@@ -244,8 +244,7 @@ fn says_what_is_not_built(rt: HostRuntime) -> Result<(), Fail> {
         rt.alloc(),
         &[
             quiet(&["drill", "2000"], &[], 10, not_built),
-            quiet(&["clauses", "a.kif", "b.kif"], &[], 10, not_built),
-            quiet(&["export", "a.kif"], &[], 10, not_built),
+            quiet(&["export", "a.kif", "b.kif"], &[], 10, not_built),
             quiet(
                 &["ask", "--turns", "5", "(p a)", "a.kif"],
                 FACT,

@@ -47,6 +47,53 @@ fn shows_the_diagnostics_of_a_file(rt: HostRuntime) -> Result<(), Fail> {
     Ok(())
 }
 
+const OUTSIDE_PAGE: &str =
+    "1 h.kif:1:1 John no parent\n1 h.kif:1:1 Mars no parent\n1 h.kif:1:1 Planet no parent\n1 h.kif:1:1 believes no parent\n2 h.kif:1:1 John no documentation\n2 h.kif:1:1 Mars no documentation\n2 h.kif:1:1 Planet no documentation\n2 h.kif:1:1 believes no documentation\n8 h.kif:1:1 believes outside the profile, not translated\n11 h.kif:1:1 believes arity unstated\n1 h.kif:2:1 a no parent\n1 h.kif:2:1 p no parent\n2 h.kif:2:1 a no documentation\n2 h.kif:2:1 p no documentation\n11 h.kif:2:1 p arity unstated\n15 diagnostics\n";
+
+#[test]
+fn shows_what_is_left_out_of_the_translation(rt: HostRuntime) -> Result<(), Fail> {
+    check_all(
+        &rt,
+        rt.alloc(),
+        &[
+            quiet(
+                &["check", "d.kif"],
+                &[(
+                    "d.kif",
+                    "(valence p 2)\n(valence q 3)\n(=> (p @ROW) (q @ROW))\n",
+                )],
+                0,
+                "1 d.kif:1:1 p no parent\n2 d.kif:1:1 p no documentation\n1 d.kif:2:1 q no parent\n2 d.kif:2:1 q no documentation\n9 d.kif:3:1 @ROW row variable never fits\n5 diagnostics\n",
+            ),
+            quiet(
+                &["check", "h.kif"],
+                &[("h.kif", "(believes John (instance Mars Planet))\n(p a)\n")],
+                0,
+                OUTSIDE_PAGE,
+            ),
+            quiet(
+                &["check", "n.kif"],
+                &[(
+                    "n.kif",
+                    "(p a)\n(=> (and (subrelation ?R q) (?R ?X)) (q ?X))\n",
+                )],
+                0,
+                "1 n.kif:1:1 a no parent\n1 n.kif:1:1 p no parent\n2 n.kif:1:1 a no documentation\n2 n.kif:1:1 p no documentation\n11 n.kif:1:1 p arity unstated\n1 n.kif:2:1 q no parent\n2 n.kif:2:1 q no documentation\n11 n.kif:2:1 q arity unstated\n12 n.kif:2:1 ?R no relation fits\n9 diagnostics\n",
+            ),
+            quiet(
+                &["check", "a.kif", "b.kif"],
+                &[
+                    ("a.kif", "(valence p 2)\n"),
+                    ("b.kif", "(valence q 3)\n(=> (p @ROW) (q @ROW))\n"),
+                ],
+                0,
+                "1 a.kif:1:1 p no parent\n2 a.kif:1:1 p no documentation\n1 b.kif:1:1 q no parent\n2 b.kif:1:1 q no documentation\n9 b.kif:2:1 @ROW row variable never fits\n5 diagnostics\n",
+            ),
+        ],
+    )?;
+    Ok(())
+}
+
 const WATERS: &[File] = &[
     ("a.kif", "(domain waters 1 Animal)\n"),
     ("b.kif", "(instance Fern Plant)\n(waters Fern Fern)\n"),

@@ -8,7 +8,7 @@ ghost use Rattle.sigma_app.specs.Requests as requests;
 ghost use Rattle.sigma_app.specs.Tool as spec;
 ghost use Rattle.sigma_app.specs.Run as run;
 
-use crate::check::diagnostics_reply;
+use crate::check::{clauses_reply, diagnostics_reply};
 use crate::files::{Part, load_names};
 use crate::forms::read_query;
 use crate::gather::{Gathering, gather};
@@ -17,12 +17,15 @@ use crate::page::{append_answer, append_end};
 use crate::plain::are_plain_facts;
 use crate::proof::proof_lines;
 use crate::refusals::is_refused;
-use crate::reply::{Reply, fixed_reply};
+use crate::reply::{Reply, fixed_reply, snapshot_reply};
 use crate::requests::{Ask, Request, WordsError, request_of};
 use kif_tree::{Form, Located, Subst, Text};
 use sig_io::{Files, Sink, Words, WriteError, write_all};
 use sigma_base::NoMemory;
 use std::alloc::Global;
+
+/// How many clauses a snapshot may have. Each plain fact is one.
+const CLAUSE_LIMIT: usize = 400_000;
 
 const USAGE: &[u8] =
     b"usage: sigma ask [--turns N] [--answers N] [--kept N] [--mode support|full] QUERY FILE...
@@ -108,6 +111,10 @@ fn forms_reply(
     if !are_plain_facts(facts) {
         return not_built(alloc);
     }
+    if let Some(past) = facts.get(CLAUSE_LIMIT) {
+        let names = load_names(alloc, parts)?;
+        return snapshot_reply(alloc, names.items(), &past.place);
+    }
     match read_query(alloc, ask.query.as_bytes())? {
         Some(query) => shown(alloc, parts, facts, &query),
         None => not_built(alloc),
@@ -160,6 +167,24 @@ fn check_reply<F: Files>(alloc: Global, paths: &[&str], files: &mut F) -> Result
     }
 }
 
+/// The reply to a command for clauses whose words are good.
+fn give_clauses<F: Files>(alloc: Global, paths: &[&str], files: &mut F) -> Result<Reply, NoMemory>
+    requires good { requests.is_refused (requests.gives_clauses (requests.texts paths.now)) ≡ false }
+    ensures told { F.told files.new ≡ F.told files.old }
+    ensures reply { IfOk result (λ reply. run.OnGoodRequest (requests.gives_clauses (requests.texts paths.now)) (F.told files.old) (F.faults files.old) (F.faults files.new) reply.status reply.text) }
+    ensures cause { OnErr result (run.MayHaveRisen (F.faults files.old) (F.faults files.new)) }
+    ensures unfetched { spec.reads_files (requests.gives_clauses (requests.texts paths.now)) ≡ false → F.faults files.new ≡ F.faults files.old }
+{
+    match gather(alloc, paths, files)? {
+        Gathering::Found(found) => clauses_reply(
+            alloc,
+            found.parts.items(),
+            found.forms.as_slice(),
+        ),
+        Gathering::Stopped(reply) => Ok(reply),
+    }
+}
+
 /// The reply to a request.
 fn request_reply<F: Files>(
     alloc: Global,
@@ -177,6 +202,7 @@ fn request_reply<F: Files>(
     match request {
         Request::Ask(ask) => ask_reply(alloc, ask, files),
         Request::Check(paths) => check_reply(alloc, paths.as_slice(), files),
+        Request::Clauses(paths) => give_clauses(alloc, paths.as_slice(), files),
         _ => not_built(alloc),
     }
 }
@@ -204,8 +230,8 @@ fn print_reply<S: Sink>(out: &mut S, reply: &Reply) -> u8
     }
 }
 
-/// Does what the words ask, with files from `files`, and prints to `out`. The answer is the status: 0 an answer or the page of a check is
-/// shown, 1 no answer is, 2 the words are refused, 3 a file is absent, 4 one could not be fetched, 5 a text has a fault, 6 a limit is
+/// Does what the words ask, with files from `files`, and prints to `out`. The answer is the status: 0 an answer or the page of a check or of
+/// clauses is shown, 1 no answer is, 2 the words are refused, 3 a file is absent, 4 one could not be fetched, 5 a text has a fault, 6 a limit is
 /// passed, 8 a write failed, 9 want of memory, 10 the command, an option, the query or a form under a query is not built yet.
 pub fn run_tool<F: Files, S: Sink>(alloc: Global, words: &Words, files: &mut F, out: &mut S) -> u8
     // Status and text are the tool's for some contents; where the files tell what they hold, for just these. An answer that is shown has

@@ -1,7 +1,9 @@
 //! The variants of a form.
-ghost use Rattle.std.specs.Prelude.{◌≡◌, [], ◌∷◌, map, filter, take, IfOk, OnOk};
+ghost use Rattle.std.specs.Prelude.{◌≡◌, [], ◌∷◌, map, filter, take, true, IfOk, OnOk};
+ghost use Rattle.std.specs.List.{list_any};
 ghost use Rattle.kif_tree.specs.Profile as profile;
 ghost use Rattle.kif_tree.specs.declared.form.Form.TheVariants as forms;
+ghost use Rattle.var_expand.specs.Choices.{is_variable};
 ghost use Rattle.var_expand.specs.Fitting as fits;
 ghost use Rattle.var_expand.specs.Problems as problems;
 ghost use Rattle.var_expand.specs.Replacement as replacement;
@@ -35,7 +37,7 @@ fn fitting<'a>(
     rows: &'a [Forms],
 ) -> Result<Listed<Listed<Chosen<'a>>>, NoMemory>
     requires variables { variables.now ≡ problem.now.variables }
-    requires words { words.now ≡ map forms.Word (search.relations_of problem.now) }
+    requires words { list_any is_variable variables.now ≡ true → words.now ≡ map forms.Word (search.relations_of problem.now) }
     requires rows { rows.now ≡ map search.row_parts variables.now }
     requires distinct { search.AreDistinct variables.now }
     ensures { IfOk result (λ found. found ≡ take 20001 (problems.passing problem.now)) }
@@ -160,7 +162,7 @@ fn solve(
     ensures { IfOk result (λ expanded. expanded ≡ problems.answer form.now predicates.now (take 20001 (problems.passing problem.now))) }
 {
     let variables = copy_all(alloc, problem.variables.items())?;
-    let words = words(alloc, problem.signatures.relations())?;
+    let words = words(alloc, variables.items(), problem.signatures.relations())?;
     let rows = rows(alloc, variables.items())?;
     let found = fitting(
         alloc,

@@ -1,12 +1,13 @@
 //! What each variable may become.
-ghost use Rattle.std.specs.Prelude.{◌≡◌, ◌∷◌, [], IfOk, map, filter};
+ghost use Rattle.std.specs.Prelude.{◌≡◌, ◌∷◌, [], IfOk, map, filter, true};
+ghost use Rattle.std.specs.List.{list_any};
 ghost use Rattle.kif_tree.specs.declared.form.Form.TheVariants as form;
 ghost use Rattle.var_expand.specs.Choices as choices;
 ghost use Rattle.var_expand.specs.Search as spec;
 
 use crate::chosen::Chosen;
 use crate::fitting::{Problem, passes};
-use crate::lists::Parts;
+use crate::lists::{Parts, is_variable};
 use kif_tree::{Form, Forms, Text};
 use sigma_base::{Listed, NoMemory};
 use std::alloc::Global;
@@ -34,8 +35,28 @@ impl<'a> Model for Offer<'a> {
     ghost view = { λ offer. record { variable = offer.variable.now; allowed = offer.allowed } };
 }
 
-/// The relation names as words.
-pub fn words(alloc: Global, relations: &[Text]) -> Result<Forms, NoMemory>
+/// The relation names as words, for variables of which one stands for a relation. For others there are none.
+pub fn words(alloc: Global, variables: &[Form], relations: &[Text]) -> Result<Forms, NoMemory>
+    ensures { IfOk result (λ words. list_any choices.is_variable variables.now ≡ true → words ≡ map form.Word relations.now) }
+{
+    if !has_variable(variables) {
+        return Ok(Listed::new(alloc));
+    }
+    words_of(alloc, relations)
+}
+
+fn has_variable(forms: &[Form]) -> bool
+    ensures { result ≡ list_any choices.is_variable forms.now }
+{
+    for form in forms {
+        if is_variable(form) {
+            return true;
+        }
+    }
+    false
+}
+
+fn words_of(alloc: Global, relations: &[Text]) -> Result<Forms, NoMemory>
     ensures { IfOk result (λ words. words ≡ map form.Word relations.now) }
 {
     let mut words = Listed::new(alloc);
@@ -142,7 +163,7 @@ fn offer_for<'a>(
     row: &'a [Form],
     part: usize,
 ) -> Result<Offer<'a>, NoMemory>
-    requires names { names.now ≡ choices.relation_options (spec.relations_of problem.now) }
+    requires names { choices.is_variable variable.now ≡ true → names.now ≡ choices.relation_options (spec.relations_of problem.now) }
     requires row { row.now ≡ spec.row_parts variable.now }
     ensures { IfOk result (λ offer. offer ≡ spec.offered problem.now variable.now) }
 {
@@ -173,7 +194,7 @@ pub fn offers<'a>(
     rows: &'a [Forms],
     parts: &[usize],
 ) -> Result<Listed<Offer<'a>>, NoMemory>
-    requires names { names.now ≡ choices.relation_options (spec.relations_of problem.now) }
+    requires names { list_any choices.is_variable variables.now ≡ true → names.now ≡ choices.relation_options (spec.relations_of problem.now) }
     requires rows { rows.now ≡ map spec.row_parts variables.now }
     ensures { IfOk result (λ offers. offers ≡ map (spec.offered problem.now) variables.now) }
 {

@@ -1,0 +1,10 @@
+pub mod GuardLaws
+pub mod HeadLaws
+pub mod InputLaws
+pub mod LeftOutLaws
+pub mod OneTranslationLaws
+pub mod PieceLaws
+pub mod PlainFormLaws
+pub mod ReplaceLaws
+pub mod SameTableLaws
+pub mod TranslationLaws

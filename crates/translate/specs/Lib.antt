@@ -1,0 +1,5 @@
+pub mod Inputs
+pub mod Laws
+pub mod Pieces
+pub mod PlainForms
+pub mod Translation
