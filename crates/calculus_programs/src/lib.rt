@@ -25,4 +25,4 @@ pub use refute::refutes;
 pub use replacing::{Parent, replace};
 pub use rules::{factor, resolve};
 pub use steps::{clause_of, derive, nth, replacement_of, untidy};
-pub use tidying::{is_tidy, same_clauses, tidy};
+pub use tidying::{append_filled, is_tidy, numbered, same_clauses, tidy};

@@ -12,4 +12,5 @@ pub mod ReadLaws
 pub mod ScopeLaws
 pub mod SentenceLaws
 pub mod SizeLaws
+pub mod TidyingLaws
 pub mod TruthLaws

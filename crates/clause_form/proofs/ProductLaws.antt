@@ -1,8 +1,8 @@
 -- The product of two lists of clauses: it is associative, so products may be taken from the left.
-use Rattle.std.proofs.Common.{◌≡◌, ℕ, ◌+◌, ◌<◌, List, [], ◌∷◌, ◌++◌, map, length, take, get_or, refl, sym, ap, ap₂, ◌∙◌, append_assoc}
+use Rattle.std.proofs.Common.{◌≡◌, List, [], ◌∷◌, ◌++◌, map, refl, sym, ap, ap₂, ◌∙◌, append_assoc}
 use Rattle.std.specs.List.{flat_map}
 use Rattle.std.proofs.lemmas.Grind.{flat_map-append}
-use Rattle.std.proofs.lemmas.List.{map-append, take_more}
+use Rattle.std.proofs.lemmas.List.{map-append}
 use Rattle.kif_tree.specs.Clauses.{Literals}
 use Rattle.clause_form.specs.Matrices.{distribution, products, joined}
 use Rattle.clause_form.specs.declared.matrix.Matrix.{Matrix}
@@ -62,18 +62,25 @@ joined_last [] last = without_more_clauses last
     without_more_clauses (clause ∷ clauses) = ap (λ (more : List Literals). clause ∷ more) (without_more_clauses clauses)
 joined_last (list ∷ lists) last = ap (λ (more : List Literals). list ++ more) (joined_last lists last) ∙ sym (append_assoc list (joined lists) last)
 
+-- a first factor that is an empty clause alone
+pub products_unit : (others : List Literals) → products (([] ∷ []) ∷ others ∷ []) ≡ others
+products_unit others = products_two ([] ∷ []) others ∙ map_same others
+
+-- a last factor that is one clause
+pub products_by_one : (clauses : List Literals) (other : Literals) → products (clauses ∷ (other ∷ []) ∷ []) ≡ map (λ (clause : Literals). clause ++ other) clauses
+products_by_one clauses other = products_two clauses (other ∷ []) ∙ each clauses
+  where
+    each : (more : List Literals) → times more (other ∷ []) ≡ map (λ (clause : Literals). clause ++ other) more
+    each [] = refl
+    each (clause ∷ more) = ap (λ (rest : List Literals). (clause ++ other) ∷ rest) (each more)
+
+pub ruleset factor_laws = (products_unit, products_by_one)
+
 -- one more part, as at a step of a loop
-map_more : (parts : List Matrix) (i : ℕ) (part : Matrix) → i < length parts → part ≡ get_or parts i part
-    → map distribution (take (i + 1) parts) ≡ map distribution (take i parts) ++ distribution part ∷ []
-map_more parts i part h e =
-    ap (map distribution) (take_more parts i part h)
-    ∙ map-append distribution (take i parts) (get_or parts i part ∷ [])
-    ∙ ap (λ (x : Matrix). map distribution (take i parts) ++ distribution x ∷ []) (sym e)
+pub joined_more : (parts : List Matrix) (part : Matrix)
+    → joined (map distribution (parts ++ part ∷ [])) ≡ joined (map distribution parts) ++ distribution part
+joined_more parts part = ap joined (map-append distribution parts (part ∷ [])) ∙ joined_last (map distribution parts) (distribution part)
 
-pub joined_more : (parts : List Matrix) (i : ℕ) (part : Matrix) → i < length parts → part ≡ get_or parts i part
-    → joined (map distribution (take (i + 1) parts)) ≡ joined (map distribution (take i parts)) ++ distribution part
-joined_more parts i part h e = ap joined (map_more parts i part h e) ∙ joined_last (map distribution (take i parts)) (distribution part)
-
-pub products_more : (parts : List Matrix) (i : ℕ) (part : Matrix) → i < length parts → part ≡ get_or parts i part
-    → products (map distribution (take (i + 1) parts)) ≡ products (products (map distribution (take i parts)) ∷ distribution part ∷ [])
-products_more parts i part h e = ap products (map_more parts i part h e) ∙ products_last (map distribution (take i parts)) (distribution part)
+pub products_more : (parts : List Matrix) (part : Matrix)
+    → products (map distribution (parts ++ part ∷ [])) ≡ products (products (map distribution parts) ∷ distribution part ∷ [])
+products_more parts part = ap products (map-append distribution parts (part ∷ [])) ∙ products_last (map distribution parts) (distribution part)

@@ -9,7 +9,7 @@ use crate::counting::count_clauses;
 use crate::distribution::distribute;
 use crate::reading::read;
 use crate::scope::{Counts, Scope};
-use calculus_programs::tidy;
+use crate::tidying::made_tidy;
 use kif_tree::{Clause, Form, Text};
 use sigma_base::{Listed, NoMemory};
 use std::alloc::Global;
@@ -53,8 +53,8 @@ pub fn clauses(alloc: Global, form: &Form, base: SkolemBase) -> Result<ClauseFor
     let scope = outermost(alloc);
     let mut counts = NOTHING;
     let matrix = read(alloc, prefix.bytes(), form, true, &scope, &mut counts)?;
-    let raw = distribute(alloc, &matrix)?;
-    Ok(ClauseForm::Clauses(tidied(alloc, raw.items())?))
+    let raw = distribute(alloc, matrix)?;
+    Ok(ClauseForm::Clauses(tidied(alloc, raw)?))
 }
 
 /// Before anything was read.
@@ -85,12 +85,12 @@ fn skolem_prefix(alloc: Global, base: SkolemBase) -> Result<Text, NoMemory>
     Ok(prefix)
 }
 
-fn tidied(alloc: Global, clauses: &[Clause]) -> Result<Listed<Clause>, NoMemory>
-    ensures { IfOk result (λ tidied. tidied ≡ map tidy_clause clauses.now) }
+fn tidied(alloc: Global, clauses: Listed<Clause>) -> Result<Listed<Clause>, NoMemory>
+    ensures { IfOk result (λ tidied. tidied ≡ map tidy_clause clauses) }
 {
     let mut tidied = Listed::new(alloc);
-    for clause in clauses {
-        tidied.push(tidy(alloc, clause)?)?;
+    for clause in clauses.into_items() {
+        tidied.push(made_tidy(alloc, clause)?)?;
     }
     Ok(tidied)
 }

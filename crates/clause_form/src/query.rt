@@ -16,7 +16,7 @@ use crate::counting::count_read;
 use crate::distribution::distribute;
 use crate::reading::read;
 use crate::scope::enter_universal;
-use calculus_programs::tidy;
+use crate::tidying::made_tidy;
 use kif_reader::{ReadError, read_forms};
 use kif_tree::{
     Clause, Form, Literal, Text, copy_all, free_names, has_no_row, in_profile, operands,
@@ -128,7 +128,7 @@ fn negated(alloc: Global, query: &Form) -> Result<QueryClauses, NoMemory>
     let mut counts = NOTHING;
     let scope = enter_universal(alloc, asked.items(), &outermost(alloc), &mut counts)?;
     let matrix = read(alloc, b"!query", query, false, &scope, &mut counts)?;
-    let raw = distribute(alloc, &matrix)?;
+    let raw = distribute(alloc, matrix)?;
     let clauses = with_answers(alloc, raw, scope.universals.items())?;
     Ok(QueryClauses { clauses, asked })
 }
@@ -170,7 +170,7 @@ fn with_answer(alloc: Global, clause: Clause, shown: &[Form]) -> Result<Clause, 
         positive: true,
         atom: answer_atom(alloc, shown)?,
     })?;
-    tidy(alloc, &Clause { literals })
+    made_tidy(alloc, Clause { literals })
 }
 
 fn answer_atom(alloc: Global, shown: &[Form]) -> Result<Form, NoMemory>

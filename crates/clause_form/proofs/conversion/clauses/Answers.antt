@@ -7,4 +7,4 @@ use Rattle.clause_form.proofs.conversion.clauses.Goals as goal
 pub returns-clause-proper : goal.returns-clause-proper
 returns-clause-proper c sentence =
     sentence_tidied c.bytes.result.now c.args.form.now c.outermost-scope.result _ c.in_ok-tidied.field-0 sentence c.outermost-scope.ensures
-    (c.in_ok-tidied.ensures ∙ ap (map tidy) (c.items.ensures ∙ (c.in_ok-raw.ensures ∙ ap distribution c.in_ok-matrix.ensures.matrix)))
+    (c.in_ok-tidied.ensures ∙ ap (map tidy) (c.in_ok-raw.ensures ∙ ap distribution c.in_ok-matrix.ensures.matrix))

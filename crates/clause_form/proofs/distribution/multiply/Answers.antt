@@ -1,15 +1,18 @@
-use Rattle.std.proofs.Common.{◌≡◌, List, sym, ap, ◌∙◌}
-use Rattle.std.proofs.lemmas.Iterator.Consumers.{YieldsList-end}
-use Rattle.std.proofs.lemmas.Iterator.Adapters.{YieldsList-from_vec}
-use Rattle.std.proofs.lemmas.List.{map-id}
+use Rattle.std.proofs.Common.{◌≡◌, List, [], ◌∷◌, IfOk, sym, ap, ◌∙◌, subst, arith}
+use Rattle.std.proofs.lemmas.Grind.{common_steps}
 use Rattle.kif_tree.specs.Clauses.{Literals}
-use Rattle.clause_form.proofs.ProductLaws.{times, products_two}
+use Rattle.clause_form.specs.Matrices.{products}
+use Rattle.clause_form.proofs.ProductLaws.{products_unit, products_by_one}
 use Rattle.clause_form.proofs.distribution.multiply.Goals as goal
 
-pub returns : goal.returns
-returns c =
-    let gives = c.into_iter-clause-iterator.ensures.into_iter_gives in
-    let vec = c.into_items-clause-items.result in
-    let ends = YieldsList-end (YieldsList-from_vec {s = c.into_iter-clause-iterator.result} vec.items gives.0 (gives.1 ∙ vec.ok.0)) c.loop-clause.yielded c.loop-clause.clause-iterator c.loop-clause.yielded_by c.next.result c.next.new.self c.in-None.is c.next.ensures.steps in
-    let whole : c.loop-clause.yielded ≡ c.args.clauses = sym (map-id c.loop-clause.yielded) ∙ ends.0 ∙ c.into_items-clause-items.ensures in
-    c.loop-clause.invariant ∙ ap (λ (clauses : List Literals). times clauses c.args.others.now) whole ∙ sym (products_two c.args.clauses c.args.others.now)
+pub returns-then-is_empty_clause : goal.returns-then-is_empty_clause
+returns-then-is_empty_clause c =
+    let empty : c.args.clauses ≡ [] ∷ [] = sym c.items.ensures ∙ c.is_empty_clause.ensures c.if-is_empty_clause.true in
+    sym (ap (λ (clauses : List Literals). products (clauses ∷ c.args.others ∷ [])) empty ∙ products_unit c.args.others)
+
+pub returns-in-len1 : goal.returns-in-len1
+returns-in-len1 c =
+    let one : c.args.others ≡ c.replace-literals.result ∷ [] = grind (arith, common_steps) in
+    subst (λ (list : List Literals). IfOk c.with_literals.result (λ products. products ≡ list))
+    (sym (ap (λ (others : List Literals). products (c.args.clauses ∷ others ∷ [])) one ∙ products_by_one c.args.clauses c.replace-literals.result))
+    c.with_literals.ensures
