@@ -1,4 +1,4 @@
-//! Runs calls that no command of the tool makes, so that they can be timed: `bench_calls CALL NAMES ROUNDS` makes the call as often as
+//! Makes single calls, so that they can be timed without a command round them: `bench_calls CALL SIZE ROUNDS` makes the call as often as
 //! it says and prints counts. Times are taken outside.
 #![tactic(auto)]
 

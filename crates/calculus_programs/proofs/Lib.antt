@@ -3,6 +3,7 @@ pub mod DeriveLaws
 pub mod FillingLaws
 pub mod OpenLaws
 pub mod PickLaws
+pub mod QuickLaws
 pub mod ShapeLaws
 pub mod ShapesLaws
 pub mod StepLaws

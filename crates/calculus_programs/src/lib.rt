@@ -1,4 +1,5 @@
-//! A plain program for each definition of the calculus, on small inputs: tests compare other programs with these.
+//! A plain program for each definition of the calculus: tests compare other programs with these, and the checker of derivations runs them.
+//! Clauses that are handed over are made tidy in place.
 #![tactic(auto)]
 
 mod equality;
@@ -7,6 +8,7 @@ mod fillings;
 mod instances;
 mod opening;
 mod proper;
+mod quick;
 mod refute;
 mod replacing;
 mod rules;
@@ -21,6 +23,7 @@ pub use fillings::{follow, turn_back};
 pub use instances::{congruence, equal, replacing_instance, symmetry};
 pub use opening::{fill_frames, framed, open, plugged, sides};
 pub use proper::{has_word_heads, is_proper};
+pub use quick::made_tidy;
 pub use refute::refutes;
 pub use replacing::{Parent, replace};
 pub use rules::{factor, resolve};

@@ -12,5 +12,4 @@ pub mod ReadLaws
 pub mod ScopeLaws
 pub mod SentenceLaws
 pub mod SizeLaws
-pub mod TidyingLaws
 pub mod TruthLaws

@@ -9,7 +9,7 @@ use crate::counting::count_clauses;
 use crate::distribution::distribute;
 use crate::reading::read;
 use crate::scope::{Counts, Scope};
-use crate::tidying::made_tidy;
+use calculus_programs::made_tidy;
 use kif_tree::{Clause, Form, Text};
 use sigma_base::{Listed, NoMemory};
 use std::alloc::Global;

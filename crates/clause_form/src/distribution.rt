@@ -159,18 +159,9 @@ fn with_copies(alloc: Global, clause: Clause, others: &[Literal]) -> Result<Clau
 {
     let Clause { mut literals } = clause;
     for literal in others {
-        literals.push(copied(alloc, literal)?)?;
+        literals.push(literal.copy(alloc)?)?;
     }
     Ok(Clause { literals })
-}
-
-fn copied(alloc: Global, literal: &Literal) -> Result<Literal, NoMemory>
-    ensures { IfOk result (λ copy. copy ≡ literal.now) }
-{
-    Ok(Literal {
-        positive: literal.positive,
-        atom: literal.atom.copy(alloc)?,
-    })
 }
 
 fn multiply_each(

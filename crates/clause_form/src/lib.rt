@@ -12,7 +12,6 @@ mod reading;
 mod scope;
 #[cfg(test)]
 mod tests;
-mod tidying;
 
 pub use connective::{Connective, connective_of};
 pub use conversion::{ClauseForm, MOST_CLAUSES, SkolemBase, clauses};

@@ -16,7 +16,7 @@ use crate::counting::count_read;
 use crate::distribution::distribute;
 use crate::reading::read;
 use crate::scope::enter_universal;
-use crate::tidying::made_tidy;
+use calculus_programs::made_tidy;
 use kif_reader::{ReadError, read_forms};
 use kif_tree::{
     Clause, Form, Literal, Text, copy_all, free_names, has_no_row, in_profile, operands,

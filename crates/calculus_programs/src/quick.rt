@@ -4,13 +4,13 @@ ghost use Rattle.std.specs.List.{list_any};
 ghost use Rattle.kif_tree.specs.Clauses.{same_literal};
 ghost use Rattle.calculus.specs.Tidy as spec;
 
-use calculus_programs::{append_filled, numbered, tidy};
+use crate::tidying::{append_filled, numbered, tidy};
 use kif_tree::{Clause, Literal, Unnamed, literals_equal, variables_in};
 use sigma_base::{Listed, NoMemory};
 use std::alloc::Global;
 
 /// The clause made tidy.
-pub(crate) fn made_tidy(alloc: Global, clause: Clause) -> Result<Clause, NoMemory>
+pub fn made_tidy(alloc: Global, clause: Clause) -> Result<Clause, NoMemory>
     ensures { IfOk result (λ made. made ≡ spec.tidy clause) }
 {
     if has_repeats(clause.literals.items()) {

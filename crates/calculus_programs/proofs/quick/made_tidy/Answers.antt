@@ -2,8 +2,8 @@ use Rattle.std.proofs.Common.{◌≡◌, subst, ◌∙◌}
 use Rattle.std.proofs.lemmas.Result.{IfOk-weaker}
 use Rattle.kif_tree.specs.Clauses.{Literals}
 use Rattle.calculus.specs.Tidy.{without_repeats}
-use Rattle.clause_form.proofs.TidyingLaws.{tidy_renamed}
-use Rattle.clause_form.proofs.tidying.made_tidy.Goals as goal
+use Rattle.calculus_programs.proofs.QuickLaws.{tidy_renamed}
+use Rattle.calculus_programs.proofs.quick.made_tidy.Goals as goal
 
 pub returns : goal.returns
 returns c =

@@ -1,8 +1,8 @@
 use Rattle.std.proofs.Common.{◌≡◌, ap, sym, ◌∙◌, arith}
 use Rattle.kif_tree.specs.Terms.{distinct}
 use Rattle.kif_tree.specs.Clauses.{Literals, clause_variables}
-use Rattle.clause_form.proofs.TidyingLaws.{nothing_renamed, no_names}
-use Rattle.clause_form.proofs.tidying.renamed.Goals as goal
+use Rattle.calculus_programs.proofs.QuickLaws.{nothing_renamed, no_names}
+use Rattle.calculus_programs.proofs.quick.renamed.Goals as goal
 
 pub returns-then-is_empty : goal.returns-then-is_empty
 returns-then-is_empty c =
