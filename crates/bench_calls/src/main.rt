@@ -3,10 +3,12 @@
 #![tactic(auto)]
 
 mod calls;
+mod pairs;
 mod words;
 
-use crate::calls::{Call, count_of};
-use crate::words::call_in;
+use crate::calls::count_of;
+use crate::pairs::count_of_pairs;
+use crate::words::{Asked, call_in};
 use std::env;
 use std::process::ExitCode;
 
@@ -16,11 +18,15 @@ fn main(rt: HostRuntime) -> ExitCode {
     };
     let Some(call) = call_in(&mut arguments) else {
         let _ = println!(rt;
-            "bench_calls tables|copy|expand|copy-plain|expand-plain|guard-plain NAMES ROUNDS"
+            "bench_calls tables|copy|expand|copy-plain|expand-plain|guard-plain NAMES ROUNDS, or pairs|copy-pairs|subsume|conclude CLAUSES ROUNDS"
         );
         return ExitCode::from(2);
     };
-    let Ok(count) = count_of(rt.alloc(), call) else {
+    let made = match call {
+        Asked::Forms(call) => count_of(rt.alloc(), call),
+        Asked::Pairs(call) => count_of_pairs(rt.alloc(), call),
+    };
+    let Ok(count) = made else {
         return ExitCode::from(9);
     };
     let _ = println!(rt; "{count}");

@@ -1,5 +1,6 @@
 //! What the arguments ask for.
 use crate::calls::{Call, Kind};
+use crate::pairs::{PairCall, PairKind};
 use std::alloc::Global;
 use std::env::Args;
 
@@ -15,15 +16,39 @@ fn kind_of(word: &str) -> Option<Kind> {
     }
 }
 
-/// The call that the words after the program's name ask for: its kind, how many names and how many rounds.
-pub(crate) fn call_in(arguments: &mut Args<Global>) -> Option<Call> {
+fn pair_kind_of(word: &str) -> Option<PairKind> {
+    match word {
+        "pairs" => Some(PairKind::Nothing),
+        "copy-pairs" => Some(PairKind::Copy),
+        "subsume" => Some(PairKind::Subsume),
+        "conclude" => Some(PairKind::Conclude),
+        _ => None,
+    }
+}
+
+/// A call over forms, or one over pairs of clauses.
+#[derive(Clone, Copy)]
+pub(crate) enum Asked {
+    Forms(Call),
+    Pairs(PairCall),
+}
+
+/// The call that the words after the program's name ask for: its kind, how many names or clauses, and how many rounds.
+pub(crate) fn call_in(arguments: &mut Args<Global>) -> Option<Asked> {
     arguments.next()?;
-    let kind = kind_of(arguments.next()?.as_str())?;
-    let names = arguments.next()?.as_str().parse().ok()?;
+    let word = arguments.next()?;
+    let size = arguments.next()?.as_str().parse().ok()?;
     let rounds = arguments.next()?.as_str().parse().ok()?;
-    Some(Call {
-        kind,
-        names,
+    if let Some(kind) = pair_kind_of(word.as_str()) {
+        return Some(Asked::Pairs(PairCall {
+            kind,
+            clauses: size,
+            rounds,
+        }));
+    }
+    Some(Asked::Forms(Call {
+        kind: kind_of(word.as_str())?,
+        names: size,
         rounds,
-    })
+    }))
 }

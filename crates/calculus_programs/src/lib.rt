@@ -26,6 +26,6 @@ pub use proper::{has_word_heads, is_proper};
 pub use quick::made_tidy;
 pub use refute::refutes;
 pub use replacing::{Parent, replace};
-pub use rules::{factor, resolve};
+pub use rules::{append_others, factor, resolve};
 pub use steps::{clause_of, derive, nth, replacement_of, untidy};
 pub use tidying::{append_filled, is_tidy, numbered, same_clauses, tidy};

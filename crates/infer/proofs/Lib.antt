@@ -1,0 +1,11 @@
+pub mod AlikeLaws
+pub mod ApartLaws
+pub mod CheckLaws
+pub mod ConclusionLaws
+pub mod ExchangeLaws
+pub mod FactorLaws
+pub mod ListLaws
+pub mod ParamodulateLaws
+pub mod PathLaws
+pub mod PlainClauseLaws
+pub mod ResolveLaws

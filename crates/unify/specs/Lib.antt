@@ -1,0 +1,6 @@
+pub mod Bindings
+pub mod ClauseSets
+pub mod Difference
+pub mod Matching
+pub mod Subsumption
+pub mod Unifiers
