@@ -15,7 +15,7 @@ use Rattle.kif_tree.proofs.SubstLaws.{bind-Variable, bind-via, Agree, agree}
 use Rattle.calculus.proofs.RenamingLaws.{in_distinct}
 use Rattle.calculus.proofs.TruthLaws.{false_true, members}
 use Rattle.unify.specs.Unifiers.{HasNone, HasNoneApart, Unifies, IsMostGeneral, ArePlain}
-use Rattle.unify.proofs.PlainLaws.{plain-Variable, plain-apply}
+use Rattle.unify.proofs.PlainLaws.{plain-Variable, plain_pairs}
 use Rattle.infer.specs.declared.apart.Apart.{Apart}
 use Rattle.infer.specs.Fillings.{IsOf, Meet, tags}
 
@@ -154,9 +154,5 @@ plain_tags tag (name ∷ names) = (plain-Variable (tag ∷ name), plain_tags tag
 pub plain-tagging : (tag : ℕ) (clause : Literals) (pairs : List Pair) → pairs ≡ tagging tag clause → ArePlain pairs
 plain-tagging tag clause pairs is = subst ArePlain (sym is) (plain_tags tag (distinct (clause_variables clause)))
 
-plain_followed : (pairs next : List Pair) → ArePlain pairs → ArePlain next → ArePlain (map (apply_pair next) pairs)
-plain_followed [] next each more = tt
-plain_followed (pair ∷ pairs) next each more = (plain-apply next more pair.term each.0, plain_followed pairs next each.1 more)
-
 pub plain-followed : (pairs next made : List Pair) → ArePlain pairs → ArePlain next → made ≡ map (apply_pair next) pairs → ArePlain made
-plain-followed pairs next made each more is = subst ArePlain (sym is) (plain_followed pairs next each more)
+plain-followed pairs next made each more is = subst ArePlain (sym is) (plain_pairs pairs next each more)

@@ -1,19 +1,12 @@
 -- Lists of conclusions that grow site by site.
-use Rattle.std.proofs.Common.{◌≡◌, inl, inr, ℕ, zero, suc, ◌+◌, ◌<◌, List, [], ◌∷◌, ◌++◌, map, Option, Some, None, MatchOption, append_assoc, refl, sym, ap, ap₂, ◌∙◌, subst, arith}
+use Rattle.std.proofs.Common.{◌≡◌, inl, inr, ℕ, zero, suc, ◌+◌, ◌<◌, List, [], ◌∷◌, ◌++◌, Option, Some, None, MatchOption, append_assoc, refl, sym, ap, ap₂, ◌∙◌, subst, arith}
+use Rattle.std.proofs.lemmas.List.{append-nil}
 use Rattle.sigma_base.specs.Lists.{Each, each_append}
 use Rattle.kif_tree.specs.Clauses.{Literals}
 use Rattle.calculus.specs.declared.step.Step.{Step}
 use Rattle.infer.specs.declared.conclusion.Conclusion.{Conclusion}
 use Rattle.infer.specs.Sites.{each_below}
 use Rattle.infer.specs.Conclusions.{GivesNothing, IsFoundAt, AreAt, Adds}
-
-pub right_unit : {X : Type 0} (xs : List X) → xs ++ [] ≡ xs
-right_unit [] = refl
-right_unit {X = X} (x ∷ xs) = ap (λ (zs : List X). x ∷ zs) (right_unit xs)
-
-pub map_append : {X Y : Type 0} (f : X → Y) (xs ys : List X) → map f (xs ++ ys) ≡ map f xs ++ map f ys
-map_append f [] ys = refl
-map_append f (x ∷ xs) ys = ap (λ zs. f x ∷ zs) (map_append f xs ys)
 
 -- ---- numbers below a bound
 
@@ -49,11 +42,11 @@ module _ (clauses : List Literals) where
   at-nothing (site ∷ sites) each = inl (each.0, at-nothing sites each.1)
 
   pub adds-none : (old : List Conclusion) → Adds clauses [] old old
-  adds-none old = record { more = []; is = sym (right_unit old); are = refl }
+  adds-none old = record { more = []; is = sym (append-nil old); are = refl }
 
   -- sites where nothing is concluded
   pub adds-nothing : (sites : List Step) (old : List Conclusion) → Each (GivesNothing clauses) sites → Adds clauses sites old old
-  adds-nothing sites old each = record { more = []; is = sym (right_unit old); are = at-nothing sites each }
+  adds-nothing sites old each = record { more = []; is = sym (append-nil old); are = at-nothing sites each }
 
   pub adds-append : (xs ys : List Step) (old middle new : List Conclusion) → Adds clauses xs old middle → Adds clauses ys middle new
       → Adds clauses (xs ++ ys) old new
@@ -65,7 +58,7 @@ module _ (clauses : List Literals) where
 
   pub adds-one : (site : Step) (made : Option Conclusion) (old new : List Conclusion) → IsFoundAt clauses site made
       → MatchOption made (new ≡ old) (λ conclusion. new ≡ old ++ conclusion ∷ []) → Adds clauses (site ∷ []) old new
-  adds-one site None old new found is = record { more = []; is = is ∙ sym (right_unit old); are = inl (found, refl) }
+  adds-one site None old new found is = record { more = []; is = is ∙ sym (append-nil old); are = inl (found, refl) }
   adds-one site (Some conclusion) old new found is = record {
     more = conclusion ∷ [];
     is = is;

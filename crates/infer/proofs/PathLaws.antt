@@ -1,6 +1,6 @@
 -- The argument places of a form, as a loop over its arguments comes to them.
 use Rattle.std.proofs.Common.{◌≡◌, ℕ, zero, suc, ◌+◌, ◌-◌, ◌<◌, ◌≤◌, List, [], ◌∷◌, ◌++◌, map, take, drop, length, get_or, Option, Some, None, MatchOption, refl, sym, ap, ap₂, ◌∙◌, append_assoc, subst, arith}
-use Rattle.std.proofs.lemmas.List.{take_more, take_all, length-take-le}
+use Rattle.std.proofs.lemmas.List.{append-nil, map-append, take_more, take_all, length-take-le}
 use Rattle.sigma_base.specs.Lists.{Each, each_append}
 use Rattle.kif_tree.specs.declared.form.Form.{Form, out-Form}
 use Rattle.kif_tree.specs.declared.form.Form.TheVariants as form
@@ -19,7 +19,7 @@ use Rattle.infer.specs.declared.conclusion.Conclusion.{Conclusion}
 use Rattle.infer.specs.Inside.{LeadsTo}
 use Rattle.infer.specs.Sites.{argument_paths, paths_step, paths}
 use Rattle.infer.specs.Conclusions.{IsFoundAt, Adds}
-use Rattle.infer.proofs.ListLaws.{right_unit, map_append, adds-one, adds-append, adds-same}
+use Rattle.infer.proofs.ListLaws.{adds-one, adds-append, adds-same}
 
 -- ---- the places of a form
 
@@ -58,7 +58,7 @@ argument_paths-push : (n : ℕ) (xs : List (List (List ℕ))) (inside : List (Li
     → argument_paths n (xs ++ inside ∷ [])
     ≡ argument_paths n xs ++ ((n + length xs) ∷ []) ∷ map (λ (path : List ℕ). (n + length xs) ∷ path) inside
 argument_paths-push n [] inside =
-    ap (λ (ps : List (List ℕ)). (n ∷ []) ∷ ps) (right_unit (map (λ (path : List ℕ). n ∷ path) inside))
+    ap (λ (ps : List (List ℕ)). (n ∷ []) ∷ ps) (append-nil (map (λ (path : List ℕ). n ∷ path) inside))
     ∙ ap (λ (m : ℕ). (m ∷ []) ∷ map (λ (path : List ℕ). m ∷ path) inside) (let e : n ≡ n + 0 = omega arith in e)
 argument_paths-push n (x ∷ xs) inside =
     let e : (n + 1) + length xs ≡ n + length (x ∷ xs) = omega arith in
@@ -80,7 +80,7 @@ reached_more (head ∷ args) (suc n) x some below is =
     let front = map paths (take n args) in
     let count : 1 + length front ≡ suc n = omega (arith, length_paths (take n args), length-take-le n args (omega arith)) in
     ap (λ (xs : List Form). argument_paths 1 (after_head (map paths xs))) (take_more (head ∷ args) (suc n) x below)
-    ∙ ap (argument_paths 1) (map_append paths (take n args) (get_or (head ∷ args) (suc n) x ∷ []))
+    ∙ ap (argument_paths 1) (map-append paths (take n args) (get_or (head ∷ args) (suc n) x ∷ []))
     ∙ argument_paths-push 1 front (paths (get_or (head ∷ args) (suc n) x))
     ∙ ap₂ (λ (m : ℕ) (y : Form). argument_paths 1 front ++ argument_at m y) count (sym is)
 
@@ -108,7 +108,7 @@ module _ (site : List ℕ → Step) (clauses : List Literals) (entry : List ℕ)
       adds-same clauses (map (λ (more : List ℕ). site ((entry ++ at ∷ []) ++ more)) (paths x))
       (map after_entry (map (λ (path : List ℕ). at ∷ path) (paths x))) pushed new (moved at (paths x)) inside in
       adds-same clauses (map after_entry (reached parts at) ++ map after_entry (argument_at at x)) (map after_entry (reached parts (at + 1))) first new
-      (sym (ap (map after_entry) (reached_more parts at x some below is) ∙ map_append after_entry (reached parts at) (argument_at at x)))
+      (sym (ap (map after_entry) (reached_more parts at x some below is) ∙ map-append after_entry (reached parts at) (argument_at at x)))
       (adds-append clauses (map after_entry (reached parts at)) (map after_entry (argument_at at x)) first old new before
       (adds-append clauses (site (entry ++ at ∷ []) ∷ []) (map after_entry (map (λ (path : List ℕ). at ∷ path) (paths x))) old pushed new here deeper))
 

@@ -1,5 +1,5 @@
 //! Most general substitutions of two clauses with variables of their own.
-ghost use Rattle.std.specs.Prelude.{◌≡◌, ◌∷◌, [], map, true, IfOk, MatchOption};
+ghost use Rattle.std.specs.Prelude.{◌≡◌, ◌∷◌, map, true, IfOk, MatchOption};
 ghost use Rattle.kif_tree.specs.Clauses.{clause_variables};
 ghost use Rattle.kif_tree.specs.Subst.{apply, apply_pair};
 ghost use Rattle.kif_tree.specs.Terms.{distinct};

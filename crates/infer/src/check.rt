@@ -1,5 +1,5 @@
 //! The check of derivations.
-ghost use Rattle.std.specs.Prelude.{◌≡◌, ◌<◌, ◌^◌, ℕ, length, take, Some, IfOk, IfErr};
+ghost use Rattle.std.specs.Prelude.{◌≡◌, ◌<◌, ◌^◌, ℕ, length, IfOk, IfErr};
 ghost use Rattle.calculus.specs.Rules.{Derivation};
 ghost use Rattle.calculus.specs.Rules as rules;
 ghost use Rattle.infer.specs.Checks.{clauses_of, IsBadStep, HasGroundEvidence, FollowsFromEvidence, KeepsAnswers};

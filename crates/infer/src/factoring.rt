@@ -1,13 +1,12 @@
 //! Factoring of a clause.
-ghost use Rattle.std.specs.Prelude.{◌≡◌, ◌<◌, ◌∷◌, [], length, IfOk, OnOk, MatchOption};
+ghost use Rattle.std.specs.Prelude.{◌<◌, ◌∷◌, [], length, IfOk, OnOk, MatchOption};
 ghost use Rattle.sigma_base.specs.Lists.{Each};
 ghost use Rattle.calculus.specs.declared.step.Step.TheVariants as steps;
 ghost use Rattle.infer.specs.Conclusions.{AreFactors, Adds, IsFoundAt};
 ghost use Rattle.infer.specs.Plain.{IsPlain, IsPlainConclusion};
 ghost use Rattle.infer.specs.Sites.{each_below, unset};
 
-use crate::conclusion::Conclusion;
-use crate::resolution::push_made;
+use crate::conclusion::{Conclusion, push_made};
 use calculus::Step;
 use calculus_programs::{append_others, made_tidy};
 use kif_tree::{Clause, is_answer};

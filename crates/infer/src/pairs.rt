@@ -1,5 +1,5 @@
 //! All conclusions of two clauses.
-ghost use Rattle.std.specs.Prelude.{◌≡◌, IfOk};
+ghost use Rattle.std.specs.Prelude.{IfOk};
 ghost use Rattle.sigma_base.specs.Lists.{Each};
 ghost use Rattle.infer.specs.Conclusions.{AreConclusions};
 ghost use Rattle.infer.specs.Plain.{IsPlain, IsPlainConclusion};

@@ -1,5 +1,5 @@
 //! Paramodulation of one clause into another.
-ghost use Rattle.std.specs.Prelude.{◌≡◌, ◌<◌, ◌+◌, ◌++◌, ◌∷◌, [], ℕ, length, get_or, map, List, Some, true, false, IfOk, OnOk, MatchOption};
+ghost use Rattle.std.specs.Prelude.{◌≡◌, ◌<◌, ◌+◌, ◌++◌, ℕ, length, get_or, map, List, Some, true, false, IfOk, OnOk, MatchOption};
 ghost use Rattle.sigma_base.specs.Lists.{Each};
 ghost use Rattle.kif_tree.specs.declared.clause.Literal.{Literal};
 ghost use Rattle.kif_tree.specs.declared.form.Form.TheVariants as forms;
@@ -15,8 +15,7 @@ ghost use Rattle.infer.specs.Plain.{IsPlain, IsPlainConclusion};
 ghost use Rattle.infer.specs.Sites.{paramodulation_sites, paramodulations, paramodulations_by, paths, unset};
 
 use crate::apart::{Apart, meet};
-use crate::conclusion::{Conclusion, Parent};
-use crate::resolution::push_made;
+use crate::conclusion::{Conclusion, Parent, push_made};
 use calculus::Step;
 use calculus_programs::{append_filled, append_others, made_tidy, sides};
 use kif_tree::{Clause, Form, Forms, Literal, Subst, Unnamed, is_answer, substitute};

@@ -1,5 +1,5 @@
 //! Resolution of two clauses.
-ghost use Rattle.std.specs.Prelude.{◌≡◌, ◌<◌, ◌++◌, ◌∷◌, [], length, get_or, List, Some, IfOk, OnOk, MatchOption};
+ghost use Rattle.std.specs.Prelude.{◌≡◌, ◌<◌, ◌∷◌, [], length, get_or, List, Some, IfOk, OnOk, MatchOption};
 ghost use Rattle.kif_tree.specs.declared.clause.Literal.{Literal};
 ghost use Rattle.kif_tree.specs.Clauses.{Literals};
 ghost use Rattle.calculus.specs.Rules.{nth};
@@ -11,7 +11,7 @@ ghost use Rattle.infer.specs.Plain.{IsPlain, IsPlainConclusion};
 ghost use Rattle.infer.specs.Sites.{each_below, resolution_sites, resolutions, unset};
 
 use crate::apart::meet;
-use crate::conclusion::{Conclusion, Parent};
+use crate::conclusion::{Conclusion, Parent, push_made};
 use calculus::Step;
 use calculus_programs::{append_others, made_tidy};
 use kif_tree::{Clause, is_answer};
@@ -92,18 +92,6 @@ fn add_resolution(
         let made = resolvent(alloc, &of_partner, &of_given)?;
         push_made(found, made)
     }
-}
-
-pub(crate) fn push_made(
-    found: &mut Listed<Conclusion>,
-    made: Option<Conclusion>,
-) -> Result<(), NoMemory>
-    ensures { OnOk result (MatchOption made (found.new ≡ found.old) (λ conclusion. found.new ≡ found.old ++ conclusion ∷ [])) }
-{
-    if let Some(conclusion) = made {
-        found.push(conclusion)?;
-    }
-    Ok(())
 }
 
 /// The resolvent of a positive literal and a negative one, which are no answer literals.

@@ -5,7 +5,7 @@ use Rattle.std.proofs.lemmas.Slice.Eq.{bytes_eq-Decides}
 use Rattle.std.proofs.lemmas.List.{get_or-map, length-map}
 use Rattle.std.proofs.lemmas.List.Folds.{list_any_at}
 use Rattle.sigma_base.specs.Lists.{Each, each_of_all, map_twice}
-use Rattle.kif_tree.specs.declared.form.Form.{Form, fold-Form, out-Form}
+use Rattle.kif_tree.specs.declared.form.Form.{Form, fold-Form}
 use Rattle.kif_tree.specs.declared.form.Form.TheVariants as form
 use Rattle.kif_tree.specs.declared.form.Form.TheOpen.{Form-F}
 use Rattle.kif_tree.specs.Terms.{Bytes, occurs}
@@ -14,14 +14,12 @@ use Rattle.kif_tree.specs.FormLaws.{induction, fold-List}
 use Rattle.kif_tree.proofs.SubstLaws.{bind-Variable, bind-List, bind_other}
 use Rattle.kif_tree.proofs.TermLaws.{occurs-Word, occurs-Variable, occurs-Row, occurs-Numeral, occurs-Quoted, occurs-List}
 use Rattle.calculus.proofs.TruthLaws.{false_true}
+use Rattle.calculus.proofs.RenamingLaws.{list_same}
 use Rattle.unify.specs.declared.difference.Difference.{Difference}
 use Rattle.unify.specs.declared.difference.Difference.TheVariants.{Same, Clash, Bind}
 use Rattle.unify.specs.Unifiers.{HasNone, HasNoneApart}
 use Rattle.unify.specs.Difference.{Binds, Differs}
 use Rattle.unify.proofs.PlainLaws.{plain-part}
-
-list_same : (xs ys : List Form) → form.List xs ≡ form.List ys → xs ≡ ys
-list_same xs ys e = let layers : Form-F.List xs ≡ Form-F.List ys = sym (form.outs-List xs) ∙ ap out-Form e ∙ form.outs-List ys in cc
 
 -- ---- sizes: a variable in a list is no part of what the list becomes
 

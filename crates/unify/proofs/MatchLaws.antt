@@ -3,15 +3,15 @@ use Rattle.std.proofs.Common.{◌≡◌, ◌↔◌, ℕ, ◌+◌, ◌<◌, List,
 use Rattle.std.proofs.lemmas.List.{map_more, take_more, map-append, take-map, get_or-map, length-map, length-take-le}
 use Rattle.std.proofs.Math.Seq.{take-append_seam}
 use Rattle.sigma_base.specs.Lists.{each_append, each_left, each_right}
-use Rattle.kif_tree.specs.declared.form.Form.{Form, out-Form}
+use Rattle.kif_tree.specs.declared.form.Form.{Form}
 use Rattle.kif_tree.specs.declared.form.Form.TheVariants as form
-use Rattle.kif_tree.specs.declared.form.Form.TheOpen.{Form-F}
 use Rattle.kif_tree.specs.declared.subst.Pair.{Pair}
 use Rattle.kif_tree.specs.Terms.{Bytes, variables, joined_once}
 use Rattle.kif_tree.specs.Subst.{Filling, bind, lookup}
 use Rattle.kif_tree.proofs.SubstLaws.{bind-Variable, bind-List, bind_other}
 use Rattle.kif_tree.proofs.TermLaws.{variables-Variable, variables-List, variables_other}
 use Rattle.kif_tree.proofs.VariableLaws.{joined_once-start, joined_once-none, joined_once-found, joined_once-new, joined_once_more}
+use Rattle.calculus.proofs.RenamingLaws.{list_same}
 use Rattle.unify.specs.Bindings.{Agrees, AreConsistent, Grows, names_of}
 use Rattle.unify.specs.Matching.{IsMatch, Matched, Tried, GivesForm, GivesForms, variables_of_all}
 use Rattle.unify.proofs.BindingLaws.{is_named, agreed}
@@ -93,11 +93,6 @@ other_kind pairs pattern target done no_variable no_list test =
     (ap (joined_once (names_of pairs)) (variables_other pattern no_variable no_list) ∙ joined_once-none (names_of pairs))
     done test
 
-parts_same : (xs ys : List Form) → form.List xs ≡ form.List ys → xs ≡ ys
-parts_same xs ys e =
-    let layers : Form-F.List xs ≡ Form-F.List ys = sym (form.outs-List xs) ∙ ap out-Form e ∙ form.outs-List ys in
-    cc
-
 -- two lists, by their parts
 pub tried_list : (old new : List Pair) (patterns targets : List Form) (done : Bool)
     → Tried old new (GivesForms patterns targets) (variables_of_all patterns) done
@@ -105,7 +100,7 @@ pub tried_list : (old new : List Pair) (patterns targets : List Form) (done : Bo
 tried_list old new patterns targets done tried =
     tried_alike old new (GivesForms patterns targets) (GivesForm (form.List patterns) (form.List targets))
     (λ g h. bind-List g patterns ∙ ap form.List h)
-    (λ g h. parts_same (map (bind g) patterns) targets (sym (bind-List g patterns) ∙ h))
+    (λ g h. list_same (map (bind g) patterns) targets (sym (bind-List g patterns) ∙ h))
     (variables_of_all patterns) (variables (form.List patterns)) (sym (variables-List patterns)) done tried
 
 -- a list becomes nothing but a list

@@ -96,7 +96,7 @@ plain-lookup (pair ∷ pairs) each name = go (bytes_eq pair.variable name) (look
 pub plain-apply : (pairs : List Pair) → ArePlain pairs → (f : Form) → is_plain f ≡ true → is_plain (apply pairs f) ≡ true
 plain-apply pairs each = plain-bind (lookup pairs) (plain-lookup pairs each)
 
-plain_pairs : (pairs next : List Pair) → ArePlain pairs → ArePlain next → ArePlain (map (apply_pair next) pairs)
+pub plain_pairs : (pairs next : List Pair) → ArePlain pairs → ArePlain next → ArePlain (map (apply_pair next) pairs)
 plain_pairs [] next each more = tt
 plain_pairs (pair ∷ pairs) next each more = (plain-apply next more pair.term each.0, plain_pairs pairs next each.1 more)
 

@@ -1,8 +1,7 @@
 //! What variables are bound to while forms are matched, without copies.
-ghost use Rattle.std.specs.Prelude.{◌≡◌, ◌++◌, ◌∷◌, [], take, length, IfOk, OnOk, OnErr, MatchOption};
+ghost use Rattle.std.specs.Prelude.{◌≡◌, ◌++◌, ◌∷◌, [], take, length, true, false, IfOk, OnOk, MatchOption};
 ghost use Rattle.std.specs.List.{list_any};
 ghost use Rattle.std.specs.Str.{bytes_eq};
-ghost use Rattle.std.specs.Prelude.{false, true};
 ghost use Rattle.kif_tree.specs.Subst.{lookup};
 ghost use Rattle.unify.specs.Bindings.{names_of};
 

@@ -1,5 +1,5 @@
 //! Matching of forms.
-ghost use Rattle.std.specs.Prelude.{◌≡◌, IfOk, OnOk, MatchOption, length};
+ghost use Rattle.std.specs.Prelude.{IfOk, OnOk, MatchOption};
 ghost use Rattle.kif_tree.specs.declared.form.Form.TheVariants as forms;
 ghost use Rattle.kif_tree.specs.Terms.{variables};
 ghost use Rattle.unify.specs.Bindings.{AreConsistent, Grows};

@@ -1,5 +1,5 @@
 //! Subsumption of clauses.
-ghost use Rattle.std.specs.Prelude.{◌≡◌, ◌↔◌, ◌<◌, ◌∷◌, ◌+◌, ◌++◌, take, drop, length, get_or, IsTrue, IfOk, OnOk};
+ghost use Rattle.std.specs.Prelude.{◌≡◌, ◌↔◌, ◌<◌, ◌+◌, ◌++◌, take, drop, length, IsTrue, IfOk, OnOk};
 ghost use Rattle.kif_tree.specs.declared.clause.Literal.{Literal};
 ghost use Rattle.unify.specs.Bindings.{AreConsistent, Grows};
 ghost use Rattle.unify.specs.Subsumption.{behind, Subsumes, SubsumesUnder, SendsAt, Placed};
