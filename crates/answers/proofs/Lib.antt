@@ -1,0 +1,13 @@
+pub mod DerivationLaws
+pub mod LineLaws
+pub mod MarkLaws
+pub mod OneOutcomeLaws
+pub mod OutcomeLaws
+pub mod PageLaws
+pub mod ProvedLaws
+pub mod QuestionLaws
+pub mod RestLaws
+pub mod SearchLaws
+pub mod ShownLaws
+pub mod UnitLaws
+pub mod WantedLaws

@@ -1,0 +1,5 @@
+pub mod Laws
+pub mod Outcomes
+pub mod Pages
+pub mod Proofs
+pub mod Questions

@@ -1,0 +1,116 @@
+//! Where a search stands.
+ghost use Rattle.std.specs.Prelude.{◌≡◌, ◌∷◌, ◌++◌, [], ◌<◌, ◌^◌, length, true, IfOk, OnOk, get_or};
+ghost use Rattle.std.specs.Option.{option_map};
+ghost use Rattle.calculus.specs.Rules.{nth};
+ghost use Rattle.infer.specs.declared.conclusion.Conclusion.{Conclusion};
+ghost use Rattle.saturate.specs.Runs as spec;
+ghost use Rattle.saturate.specs.States.{HasWeights};
+ghost use Rattle.std.specs.Prelude.{min, sum, map};
+ghost use Rattle.kif_tree.specs.Terms.{symbols as symbols_in};
+
+use crate::inputs::Inputs;
+use calculus::Step;
+use infer::Conclusion;
+use kif_tree::{Clause, symbols};
+use sigma_base::{Listed, NoMemory};
+use std::alloc::Global;
+
+/// Where a search stands. The lists after the steps name clauses by the numbers of their steps, which begin with the inputs in order.
+#[derive(Debug, Drop)]
+pub struct Reached<'a> {
+    pub inputs: Inputs<'a>,
+    /// The clauses of the steps after the inputs.
+    pub derived: Listed<Clause>,
+    pub steps: Listed<Step>,
+    /// Those that were given and not dropped, after those that in support mode began so, in this order.
+    pub processed: Listed<u32>,
+    pub waiting: Listed<u32>,
+    /// Those that nest too deep.
+    pub aside: Listed<u32>,
+    /// Those that have answer literals alone.
+    pub found: Listed<u32>,
+}
+
+impl<'a> Reached<'a> {
+    /// The clause of that number. It takes no memory.
+    pub fn clause(&self, number: u32) -> Option<&Clause>
+        ensures { option_map (λ clause. clause.now) result ≡ nth (spec.clauses self.now) number }
+    {
+        let at = number as usize;
+        let count = self.inputs.count();
+        if at < count {
+            return match self.inputs.get(at) {
+                Some(input) => Some(&input.clause),
+                None => None,
+            };
+        }
+        self.derived.items().get(at - count)
+    }
+
+    /// Whether the clause is one of the query, as it stands among the inputs. It takes no memory.
+    pub fn is_of_query(&self, number: u32) -> bool
+        ensures { result ≡ spec.is_of_query self.now number }
+    {
+        self.inputs.is_of_query(number)
+    }
+
+    /// Whether the clause is no input. It takes no memory.
+    pub fn is_derived(&self, number: u32) -> bool
+        ensures { result ≡ spec.is_derived self.now number }
+    {
+        self.inputs.count() <= number as usize
+    }
+}
+
+/// Where a search stands, and what would be counted again and again.
+#[derive(Debug, Drop)]
+pub(crate) struct State<'a> {
+    pub reached: Reached<'a>,
+    /// How many symbols the clause of each step has.
+    pub weights: Listed<u64>,
+    /// How many derived clauses are processed, wait or are aside.
+    pub kept: usize,
+}
+
+/// The words, variables, numerals and strings of all literals, or the greatest `u64` where there are more.
+pub(crate) fn weight(clause: &Clause) -> u64
+    ensures { result ≡ spec.weight clause.now }
+{
+    let mut count: u64 = 0;
+    for literal in clause.literals.items() {
+        count = count.saturating_add(symbols(&literal.atom));
+    }
+    count
+}
+
+impl<'a> State<'a> {
+    /// The next step, with its clause, which has the number that comes back. More steps than numbers of 32 bits count as want of memory, which
+    /// comes long before.
+    pub fn add(&mut self, conclusion: Conclusion) -> Result<u32, NoMemory>
+        requires { HasWeights self.old }
+        ensures number { IfOk result (λ number. number ≡ length self.old.reached.steps) }
+        ensures grown { OnOk result (self.new.reached ≡ spec.grown self.old.reached conclusion) }
+        ensures kept { OnOk result (self.new.kept ≡ self.old.kept) }
+        ensures weights { OnOk result (HasWeights self.new) }
+    {
+        let Ok(number) = u32::try_from(self.reached.steps.items().len()) else {
+            return Err(NoMemory);
+        };
+        let Conclusion { clause, step } = conclusion;
+        self.weights.push(weight(&clause))?;
+        self.reached.derived.push(clause)?;
+        self.reached.steps.push(step)?;
+        Ok(number)
+    }
+
+    /// How many symbols the clause has.
+    pub fn weight_of(&self, number: u32) -> u64
+        requires { HasWeights self.now }
+        ensures { result ≡ spec.weight_at self.now.reached number }
+    {
+        match self.weights.items().get(number as usize) {
+            Some(weight) => *weight,
+            None => 0,
+        }
+    }
+}
