@@ -6,6 +6,7 @@ pub mod OutcomeLaws
 pub mod PageLaws
 pub mod ProvedLaws
 pub mod QuestionLaws
+pub mod RefusalLaws
 pub mod RestLaws
 pub mod SearchLaws
 pub mod ShownLaws

@@ -37,7 +37,7 @@ use Rattle.answers.specs.Pages.{lines_text, bindings_text, answer_text, answers_
 use Rattle.answers.specs.Laws.{AreAlikeProofs, AreAlikeAnswers, AreAlikeIfThere, AreAlikeOutcomes, OneOutcome, OnePage, EveryRunAnswers}
 use Rattle.answers.proofs.RestLaws.{HasItem, has_below, one_order, rests_there, rests_closed}
 use Rattle.answers.proofs.DerivationLaws.{made, clause_there, steps_there, parent_chosen, lines_show}
-use Rattle.answers.proofs.QuestionLaws.{one_query}
+use Rattle.answers.proofs.RefusalLaws.{one_query}
 
 -- ---- steps at one site
 

@@ -1,12 +1,11 @@
--- A text is one query, with proper clauses, and what limits in their ranges are.
-use Rattle.std.proofs.Common.{◌≡◌, inl, inr, ◌≤◌, ℕ, nat_le, List, [], ◌∷◌, length, Bool, true, false, not, if◌then◌else◌, sym, ap, ◌∙◌, subst, refl}
+-- A query's clauses are proper, and what limits in their ranges are.
+use Rattle.std.proofs.Common.{◌≡◌, inl, inr, ◌≤◌, ℕ, nat_le, List, [], ◌∷◌, length, Bool, true, false, not, if◌then◌else◌, sym, ap, subst, refl}
 use Rattle.std.proofs.lemmas.Bool.{leb-true}
 use Rattle.std.specs.Prelude.{Result, Ok, Err}
 use Rattle.sigma_base.specs.Lists.{Each}
 use Rattle.kif_tree.specs.declared.place.Located.{Located}
 use Rattle.kif_tree.specs.Terms.{Bytes}
 use Rattle.kif_reader.specs.Spelling.{Spells}
-use Rattle.kif_reader.proofs.ReadingIsOneLaws.{spells_unique}
 use Rattle.calculus.proofs.TruthLaws.{both}
 use Rattle.clause_form.specs.declared.query.QueryClauses.{QueryClauses}
 use Rattle.clause_form.specs.declared.query.QueryError.{QueryError}
@@ -19,6 +18,7 @@ use Rattle.saturate.specs.declared.limits.Limits.{Limits}
 use Rattle.saturate.specs.declared.limits.LimitsError.{LimitsError}
 use Rattle.saturate.specs.declared.limits.LimitsError.TheVariants as errors
 use Rattle.saturate.specs.Limits.{is_within, checked}
+use Rattle.answers.proofs.RefusalLaws.{limits_error}
 
 -- ---- queries
 
@@ -39,15 +39,6 @@ asked_clauses text query answer =
     let q = asked_query text query answer in
     subst (λ (n : ℕ). Each (IsQueryClause n) query.clauses) (ap length (sym q.asks)) q.are
 
-one_ok : (first second : QueryClauses) (error : QueryError) → (let answer : Result QueryClauses QueryError = Ok first in answer) ≡ Ok second → first ≡ second
-one_ok first second error e = cc
-
-pub one_query : (text : Bytes) (first second : QueryClauses) → IsQueryAnswer text (Ok first) → IsQueryAnswer text (Ok second) → first ≡ second
-one_query text first second (inl a) (inl b) =
-    one_ok first second refused.NotOneForm (a.is ∙ ap forms_answer (spells_unique 0 text a.forms b.forms a.spells b.spells) ∙ sym b.is)
-one_query text first second (inl a) (inr b) = query_no_error second (refused.Syntax b.error) b.is
-one_query text first second (inr a) b = query_no_error first (refused.Syntax a.error) a.is
-
 -- ---- limits
 
 pub record AreSome (limits : Limits) : Type 0 where
@@ -57,9 +48,6 @@ pub record AreSome (limits : Limits) : Type 0 where
 
 at_least_one : (greatest n : ℕ) → is_within greatest n ≡ true → 1 ≤ n
 at_least_one greatest n h = leb-true 1 n (both (nat_le 1 n) (nat_le n greatest) h).0
-
-limits_error : {A : Type 0} (error : LimitsError) → (let answer : Result (Unit {0}) LimitsError = Err error in answer) ≡ Ok tt → A
-limits_error error e = absurd (cc)
 
 pub checked_some : (limits : Limits) → checked limits ≡ Ok tt → AreSome limits
 checked_some limits = go (is_within 100000 limits.turns) (is_within 1000 limits.answers) (is_within 200000 limits.kept) refl refl refl

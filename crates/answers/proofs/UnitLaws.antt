@@ -12,7 +12,8 @@ use Rattle.saturate.specs.Laws as searches
 use Rattle.answers.specs.declared.outcome.Answer.{Answer}
 use Rattle.answers.specs.Outcomes.{Correspond}
 use Rattle.answers.specs.Laws.{UnitsAnswer}
-use Rattle.answers.proofs.QuestionLaws.{asked_clauses, one_query, checked_some}
+use Rattle.answers.proofs.QuestionLaws.{asked_clauses, checked_some}
+use Rattle.answers.proofs.RefusalLaws.{one_query}
 
 none_found : (R : ℕ → Answer → Type 0) (numbers : List ℕ) (answers : List Answer) → Correspond R numbers answers → answers ≡ [] → numbers ≡ []
 none_found R [] answers both none = refl

@@ -1,5 +1,5 @@
--- Laws of outcomes.
-use Rattle.std.specs.Prelude.{◌≡◌, ◌≢◌, ◌⊎◌, ℕ, List, [], ◌∷◌, Option, Some, None, Ok}
+-- Laws of outcomes and refusals.
+use Rattle.std.specs.Prelude.{◌≡◌, ◌≢◌, ◌⊎◌, ℕ, List, [], ◌∷◌, Option, Some, None, Result, Ok, Err}
 use Rattle.kif_tree.specs.declared.form.Form.{Form}
 use Rattle.kif_tree.specs.declared.place.LoadName.{LoadName}
 use Rattle.kif_tree.specs.declared.clause.InputClause.{InputClause}
@@ -10,6 +10,8 @@ use Rattle.unify.specs.ClauseSets.{IsClauseSet}
 use Rattle.infer.specs.Checks.{clauses_of}
 use Rattle.infer.specs.Laws.{EachTwo}
 use Rattle.clause_form.specs.declared.query.QueryClauses.{QueryClauses}
+use Rattle.clause_form.specs.declared.query.QueryError.{QueryError}
+use Rattle.clause_form.specs.declared.query.QueryError.TheVariants as no_query
 use Rattle.clause_form.specs.Queries.{IsQueryAnswer}
 use Rattle.saturate.specs.declared.ended.Ended.{Ended}
 use Rattle.saturate.specs.declared.ended.Ended.TheVariants as ended
@@ -19,14 +21,17 @@ use Rattle.saturate.specs.Alike.{AreSameSteps}
 use Rattle.saturate.specs.Laws.{UnifiesApart}
 use Rattle.saturate.specs.declared.reached.Reached.{Reached}
 use Rattle.saturate.specs.Inputs.{search_inputs}
+use Rattle.saturate.specs.Limits.{checked}
 use Rattle.saturate.specs.Runs.{Runs}
 use Rattle.answers.specs.declared.outcome.Answer.{Answer}
 use Rattle.answers.specs.declared.outcome.Outcome.{Outcome}
 use Rattle.answers.specs.declared.proof.Proof.{Proof}
+use Rattle.answers.specs.declared.question.AskError.{AskError}
+use Rattle.answers.specs.declared.question.AskError.TheVariants as errors
 use Rattle.answers.specs.Pages.{page}
 use Rattle.answers.specs.Proofs.{clauses_in}
 use Rattle.answers.specs.Outcomes.{IsOutcomeOf}
-use Rattle.answers.specs.Questions.{IsAsked, IsProved, HasEnd}
+use Rattle.answers.specs.Questions.{IsAsked, IsRefused, IsProved, HasEnd}
 
 -- the same lines, by steps that differ in the names of variables inside substitutions alone
 pub record AreAlikeProofs (first second : Proof) : Type 0 where
@@ -83,3 +88,23 @@ UnitsAnswer = (set : List InputClause) (text : Bytes) (limits : Limits) (outcome
     → IsClauseSet set → IsQueryAnswer text (Ok query) → query.clauses ≡ (no atom ∷ yes (answer_atom arguments) ∷ []) ∷ []
     → limits.mode ≡ Support → Among (yes unit ∷ []) (clauses_of (search_inputs set query.clauses)) → UnifiesApart atom unit
     → IsAsked set text limits outcome → (outcome.answers ≢ []) ⊎ (outcome.ended ≡ ended.Crowded)
+
+-- ---- what refuses a question
+
+-- a text is one query at most, with its clauses and the variables that it asks for, or is none for one reason at most, and not both
+abbrev pub OneQueryAnswer : Type 0
+OneQueryAnswer = (text : Bytes) (first second : Result QueryClauses QueryError) → IsQueryAnswer text first → IsQueryAnswer text second → first ≡ second
+
+-- want of memory is no such reason
+abbrev pub MemoryIsNoQueryAnswer : Type 0
+MemoryIsNoQueryAnswer = (text : Bytes) → IsQueryAnswer text (Err no_query.NoMemory) → ⊥
+
+-- a good query within the limits is refused for want of memory alone
+abbrev pub GoodIsRefusedForMemory : Type 0
+GoodIsRefusedForMemory = (text : Bytes) (limits : Limits) (query : QueryClauses) (error : AskError)
+    → checked limits ≡ Ok tt → IsQueryAnswer text (Ok query) → IsRefused text limits error → error ≡ errors.NoMemory
+
+-- and so is a question that has an outcome
+abbrev pub AskedIsRefusedForMemory : Type 0
+AskedIsRefusedForMemory = (set : List InputClause) (text : Bytes) (limits : Limits) (outcome : Outcome) (error : AskError)
+    → IsAsked set text limits outcome → IsRefused text limits error → error ≡ errors.NoMemory

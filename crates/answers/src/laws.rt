@@ -1,4 +1,4 @@
-//! Laws of outcomes, each as the contract of a function without a body.
+//! Laws of outcomes and refusals, each as the contract of a function without a body.
 ghost use Rattle.answers.specs.Laws as laws;
 
 /// The outcome is a function of set, query and limits, but for the names of variables inside the substitutions of its proofs. They aren't
@@ -19,4 +19,13 @@ pub fn proof_law()
 /// In support mode a query of one atom is answered where one axiom of one positive literal unifies with it, unless the search ends crowded.
 pub fn unit_law()
     ensures { laws.UnitsAnswer }
+{}
+
+/// A text is one query at most, or is none for one reason at most, and not both; want of memory is no such reason. So a good query within the
+/// limits is refused for want of memory alone, and so is a question that has an outcome.
+pub fn refusal_law()
+    ensures good { laws.GoodIsRefusedForMemory }
+    ensures one { laws.OneQueryAnswer }
+    ensures memory { laws.MemoryIsNoQueryAnswer }
+    ensures asked_or_refused { laws.AskedIsRefusedForMemory }
 {}

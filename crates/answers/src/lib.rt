@@ -11,7 +11,7 @@ mod question;
 #[cfg(test)]
 mod tests;
 
-pub use laws::{one_outcome_law, proof_law, unit_law};
+pub use laws::{one_outcome_law, proof_law, refusal_law, unit_law};
 pub use outcome::{Answer, Binding, Outcome};
 pub use page::print_outcome;
 pub use proof::{Proof, ProofLine, Rule};

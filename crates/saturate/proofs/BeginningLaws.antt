@@ -6,20 +6,24 @@ use Rattle.std.proofs.lemmas.Bool.{lt-leb}
 use Rattle.std.proofs.Math.Bool.{beq}
 use Rattle.sigma_base.specs.Lists.{Each, each_append, each_map, each_filter}
 use Rattle.kif_tree.specs.declared.clause.InputClause.{InputClause}
-use Rattle.kif_tree.specs.Clauses.{same_sign}
+use Rattle.kif_tree.specs.Clauses.{Literals, same_sign}
 use Rattle.calculus.specs.declared.step.Step.{Step}
 use Rattle.calculus.specs.Rules.{nth}
 use Rattle.calculus_programs.proofs.PickLaws.{nth-some, some_item}
 use Rattle.infer.specs.Checks.{clauses_of}
+use Rattle.infer.specs.Conclusions.{clause_at}
 use Rattle.infer.specs.Plain.{IsPlain}
 use Rattle.infer.proofs.ParamodulateLaws.{nth_index}
 use Rattle.saturate.specs.declared.limits.Mode.{Mode}
 use Rattle.saturate.specs.declared.limits.Mode.TheVariants.{Support, Full}
 use Rattle.saturate.specs.declared.reached.Reached.{Reached}
 use Rattle.saturate.specs.declared.reached.State.{State}
+use Rattle.saturate.specs.Fingerprints.{fingerprints, first_of}
+use Rattle.saturate.specs.Indexes.{Listing, AreListed, IsIndexed, IsListed, key_of, listed}
 use Rattle.saturate.specs.Inputs.{is_query_number}
 use Rattle.saturate.specs.Runs.{clauses, numbers_from, numbers_of, first_processed, first_waiting, beginning, weight, kept_count}
 use Rattle.saturate.specs.States.{IsConsistent}
+use Rattle.saturate.proofs.IndexStepLaws.{indexed_begun, input_listed, input_at}
 
 numbers_after : (first count : ℕ) → numbers_from first (suc count) ≡ numbers_from first count ++ (first + count) ∷ []
 numbers_after first zero = let e : first ≡ first + 0 = omega arith in ap (λ (n : ℕ). n ∷ []) e
@@ -59,19 +63,28 @@ signs_differ true false e = refl
 signs_differ false true e = refl
 signs_differ false false e = e
 
--- ---- weights
+-- ---- what is kept of each clause
 
 pub there_is : {X : Type 0} (xs : List X) (n : ℕ) → n < length xs → nth xs n ≡ None → ⊥
 there_is xs n below none = let x = some_item xs n below in let e : None ≡ Some x.0 = sym none ∙ nth-some xs n x.0 below x.1 in cc
 
-pub weights_more : (inputs : List InputClause) (number : ℕ) (input : InputClause) → nth inputs number ≡ Some input
-    → map weight (clauses_of (take (number + 1) inputs)) ≡ map weight (clauses_of (take number inputs)) ++ weight input.clause ∷ []
-weights_more inputs number input at =
+pub clauses_more : {X : Type 0} (f : Literals → X) (inputs : List InputClause) (number : ℕ) (input : InputClause) → nth inputs number ≡ Some input
+    → map f (clauses_of (take (number + 1) inputs)) ≡ map f (clauses_of (take number inputs)) ++ f input.clause ∷ []
+clauses_more f inputs number input at =
     let there = nth_index inputs number input at in
-    ap (λ (xs : List InputClause). map weight (clauses_of xs))
+    ap (λ (xs : List InputClause). map f (clauses_of xs))
     (take_more inputs number input there.0 ∙ ap (λ (x : InputClause). take number inputs ++ x ∷ []) (sym there.1))
-    ∙ ap (map weight) (map-append (λ (i : InputClause). i.clause) (take number inputs) (input ∷ []))
-    ∙ map-append weight (clauses_of (take number inputs)) (input.clause ∷ [])
+    ∙ ap (map f) (map-append (λ (i : InputClause). i.clause) (take number inputs) (input ∷ []))
+    ∙ map-append f (clauses_of (take number inputs)) (input.clause ∷ [])
+
+-- one input more is listed
+pub input_next : (inputs : List InputClause) (old new : Listing) (number place : ℕ) → AreListed inputs old number → number < length inputs
+    → place ≡ key_of (first_of (clause_at (clauses_of inputs) number)) → IsListed old new place number → AreListed inputs new (number + 1)
+input_next inputs old new number place before below is lists =
+    let x = some_item inputs number below in
+    let at = nth-some inputs number x.0 below x.1 in
+    input_listed inputs old new number x.0 before at
+    (subst (λ (key : ℕ). IsListed old new key number) (is ∙ ap (λ (c : Literals). key_of (first_of c)) (input_at inputs number x.0 at)) lists)
 
 -- ---- the beginning
 
@@ -105,8 +118,8 @@ none_derived inputs (n ∷ numbers) each =
     ∙ none_derived inputs numbers each.1
 
 pub begins : (inputs : List InputClause) (mode : Mode) (state : State) → state.reached ≡ beginning inputs mode → state.weights ≡ map weight (clauses_of inputs)
-    → state.kept ≡ 0 → Each IsPlain (clauses_of inputs) → IsConsistent state
-begins inputs mode state is weights kept plain =
+    → state.fingerprints ≡ map fingerprints (clauses_of inputs) → AreListed inputs (listed state.listed) (length inputs) → state.kept ≡ 0 → Each IsPlain (clauses_of inputs) → IsConsistent state
+begins inputs mode state is weights prints lists kept plain =
     let all : clauses (beginning inputs mode) ≡ clauses_of inputs = append-nil (clauses_of inputs) in
     let counted : length (clauses (beginning inputs mode)) ≡ length inputs = ap length all ∙ length-map inputs (λ (i : InputClause). i.clause) in
     let numbers = first_processed inputs mode ++ (first_waiting inputs mode ++ []) in
@@ -115,6 +128,8 @@ begins inputs mode state is weights kept plain =
     (each_append (λ n. n < length inputs) (first_waiting inputs mode) [] (waiting_below inputs mode) tt) in
     record {
       weights = weights ∙ sym (ap (λ (r : Reached). map weight (clauses r)) is ∙ ap (map weight) all);
+      fingerprints = prints ∙ sym (ap (λ (r : Reached). map fingerprints (clauses r)) is ∙ ap (map fingerprints) all);
+      indexed = subst (IsIndexed (listed state.listed)) (sym is) (indexed_begun inputs (listed state.listed) mode lists);
       kept = kept ∙ sym (ap kept_count is ∙ ap length (none_derived inputs numbers below));
       steps = ap (λ (r : Reached). length r.steps) is
           ∙ length-map (numbers_of inputs) Step.Input ∙ numbers_count 0 (length inputs) ∙ sym (ap (λ (r : Reached). length (clauses r)) is ∙ counted);

@@ -49,7 +49,7 @@ abbrev pub AreAccounted : Mode → Reached → List ℕ → List ℕ → Type 0
 AreAccounted mode r before [] = Unit {0}
 AreAccounted mode r before (number ∷ numbers) = IsAccounted mode r before number × AreAccounted mode r (before ++ number ∷ []) numbers
 
--- whatever follows from the processed clauses in one step is covered
+-- whatever follows from the processed clauses in one step is covered, save, in support mode, what follows from axioms alone
 abbrev pub IsWholeAccount : Mode → Reached → Type 0
 IsWholeAccount mode r = AreAccounted mode r [] r.processed
 
@@ -95,7 +95,7 @@ pub record IsConcluded (r : Reached) (number : ℕ) : Type 0 where
 abbrev pub IsDeep : Reached → ℕ → Type 0
 IsDeep r number = most_levels < clause_depth (clause_at (clauses r) number)
 
--- nothing waits and nothing is aside: what follows is covered
+-- nothing waits and nothing is aside: what follows is covered, save, in support mode, what follows from axioms alone
 pub record IsSaturated (mode : Mode) (r : Reached) : Type 0 where
   pub waiting : r.waiting ≡ []
   pub aside : r.aside ≡ []

@@ -1,6 +1,8 @@
 pub mod Alike
 pub mod Covered
 pub mod Ends
+pub mod Fingerprints
+pub mod Indexes
 pub mod Inputs
 pub mod Laws
 pub mod Limits

@@ -2,10 +2,11 @@
 ghost use Rattle.std.specs.Prelude.{◌≡◌, IfOk};
 ghost use Rattle.kif_tree.specs.Terms.{greatest};
 ghost use Rattle.saturate.specs.Runs as spec;
+ghost use Rattle.saturate.specs.Indexes.{IsIndexed, listed as listed_in};
 ghost use Rattle.std.specs.Prelude.{min};
 
 use crate::covered::is_covered;
-use crate::reached::Reached;
+use crate::reached::State;
 use kif_tree::{Clause, depth, is_answer};
 use sigma_base::NoMemory;
 use std::alloc::Global;
@@ -30,15 +31,16 @@ pub enum Arrival {
 /// What becomes of the clause.
 pub(crate) fn arrival_of(
     alloc: Global,
-    reached: &Reached<'_>,
+    state: &State<'_>,
     clause: &Clause,
 ) -> Result<Arrival, NoMemory>
-    ensures { IfOk result (λ arrival. spec.IsArrival reached.now clause.now arrival) }
+    requires { IsIndexed (listed_in state.now.listed) state.now.reached }
+    ensures { IfOk result (λ arrival. spec.IsArrival state.now.reached clause.now arrival) }
 {
     if clause.literals.items().is_empty() {
         return Ok(Arrival::Contradiction);
     }
-    if is_covered(alloc, reached, clause)? {
+    if is_covered(alloc, state, clause)? {
         return Ok(Arrival::Dropped);
     }
     if has_answers_alone(clause) {

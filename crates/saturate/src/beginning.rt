@@ -5,14 +5,19 @@ ghost use Rattle.infer.specs.Checks.{clauses_of};
 ghost use Rattle.infer.specs.Plain.{IsPlain};
 ghost use Rattle.calculus.specs.declared.step.Step.TheVariants as steps;
 ghost use Rattle.saturate.specs.Runs as spec;
+ghost use Rattle.saturate.specs.Fingerprints.{fingerprints as prints_of};
+ghost use Rattle.saturate.specs.Indexes.{AreListed, listed as listed_in};
 ghost use Rattle.saturate.specs.States.{IsConsistent};
 
+use crate::fingerprint::Fingerprints;
+use crate::index::{Index, list};
 use crate::inputs::Inputs;
 use crate::limits::Mode;
 use crate::reached::{Reached, State, weight};
 use calculus::Step;
 use sigma_base::{Listed, NoMemory};
 use std::alloc::Global;
+use std::collections::HashMap;
 
 /// Where a search begins: the steps are the inputs. In support mode the clauses of the query wait and the others are processed, in full mode
 /// all wait.
@@ -28,6 +33,8 @@ pub(crate) fn beginning<'a>(
 {
     let steps = input_steps(alloc, inputs.count() as u32)?;
     let weights = input_weights(alloc, &inputs)?;
+    let fingerprints = input_fingerprints(alloc, &inputs)?;
+    let listed = input_index(alloc, &inputs, fingerprints.items())?;
     let processed = first_processed(alloc, &inputs, mode)?;
     let waiting = first_waiting(alloc, &inputs, mode)?;
     Ok(State {
@@ -41,6 +48,8 @@ pub(crate) fn beginning<'a>(
             found: Listed::new(alloc),
         },
         weights,
+        fingerprints,
+        listed,
         kept: 0,
     })
 }
@@ -65,6 +74,40 @@ fn input_weights(alloc: Global, inputs: &Inputs<'_>) -> Result<Listed<u64>, NoMe
         }
     }
     Ok(weights)
+}
+
+fn input_fingerprints(alloc: Global, inputs: &Inputs<'_>) -> Result<Listed<Fingerprints>, NoMemory>
+    ensures { IfOk result (λ list. list ≡ map prints_of (clauses_of inputs.now)) }
+{
+    let mut list = Listed::new(alloc);
+    for number in 0..inputs.count() {
+        if let Some(input) = inputs.get(number) {
+            list.push(Fingerprints::of(alloc, &input.clause)?)?;
+        }
+    }
+    Ok(list)
+}
+
+/// All inputs by the keys of their first literals, of which these are the fingerprints.
+fn input_index(
+    alloc: Global,
+    inputs: &Inputs<'_>,
+    fingerprints: &[Fingerprints],
+) -> Result<Index, NoMemory>
+    requires few { length inputs.now < 2 ^ 32 }
+    requires fingerprints { fingerprints.now ≡ map prints_of (clauses_of inputs.now) }
+    ensures { IfOk result (λ index. AreListed inputs.now (listed_in index) (length inputs.now)) }
+{
+    let mut index = HashMap::new(alloc);
+    for number in 0..inputs.count() {
+        list(
+            alloc,
+            &mut index,
+            fingerprints[number].first.key(),
+            number as u32,
+        )?;
+    }
+    Ok(index)
 }
 
 fn first_processed(alloc: Global, inputs: &Inputs<'_>, mode: Mode) -> Result<Listed<u32>, NoMemory>

@@ -2,13 +2,17 @@
 ghost use Rattle.std.specs.Prelude.{◌≡◌, ◌↔◌, IsTrue, IfOk};
 ghost use Rattle.std.specs.List.{list_any};
 ghost use Rattle.saturate.specs.Covered as spec;
+ghost use Rattle.saturate.specs.Fingerprints.{fingerprints as prints_of};
 ghost use Rattle.saturate.specs.Runs.{clauses, IsCovered};
+ghost use Rattle.saturate.specs.Indexes.{IsIndexed, listed as listed_in};
+ghost use Rattle.saturate.specs.States.{HasFingerprints};
 
-use crate::reached::Reached;
+use crate::fingerprint::Fingerprints;
+use crate::lookup::{is_under, subsumes_at};
+use crate::reached::State;
 use kif_tree::{Clause, Literal, forms_equal};
 use sigma_base::NoMemory;
 use std::alloc::Global;
-use unify::subsumes;
 
 /// An atom stands in the clause with both signs. It takes no memory.
 pub fn is_tautology(clause: &Clause) -> bool
@@ -34,20 +38,23 @@ fn has_opposite(literal: &Literal, literals: &[Literal]) -> bool
     false
 }
 
-/// One of the clauses with these numbers subsumes the clause.
+/// One of the clauses with these numbers subsumes the clause, which has these fingerprints.
 fn is_subsumed(
     alloc: Global,
-    reached: &Reached<'_>,
+    state: &State<'_>,
     numbers: &[u32],
     clause: &Clause,
+    prints: &Fingerprints,
 ) -> Result<bool, NoMemory>
-    ensures { IfOk result (λ answer. IsTrue answer ↔ spec.IsSubsumed (clauses reached.now) numbers.now clause.now) }
+    requires kept { HasFingerprints state.now }
+    requires prints { prints.now ≡ prints_of clause.now }
+    ensures { IfOk result (λ answer. IsTrue answer ↔ spec.IsSubsumed (clauses state.now.reached) numbers.now clause.now) }
 {
     for number in numbers {
-        if let Some(general) = reached.clause(*number) {
-            if subsumes(alloc, general, clause)? {
-                return Ok(true);
-            }
+        if state.may_subsume(*number, prints)
+            && subsumes_at(alloc, &state.reached, *number, clause)?
+        {
+            return Ok(true);
         }
     }
     Ok(false)
@@ -56,34 +63,32 @@ fn is_subsumed(
 /// The clause is a tautology, or one of the clauses with these numbers subsumes it.
 pub(crate) fn is_needless(
     alloc: Global,
-    reached: &Reached<'_>,
+    state: &State<'_>,
     numbers: &[u32],
     clause: &Clause,
 ) -> Result<bool, NoMemory>
-    ensures { IfOk result (λ answer. IsTrue answer ↔ spec.IsNeedless (clauses reached.now) numbers.now clause.now) }
+    requires { HasFingerprints state.now }
+    ensures { IfOk result (λ answer. IsTrue answer ↔ spec.IsNeedless (clauses state.now.reached) numbers.now clause.now) }
 {
     if is_tautology(clause) {
         return Ok(true);
     }
-    is_subsumed(alloc, reached, numbers, clause)
+    let prints = Fingerprints::of(alloc, clause)?;
+    is_subsumed(alloc, state, numbers, clause, &prints)
 }
 
 /// The clause is a tautology, or one that is processed, waits, is aside or was found subsumes it.
 pub(crate) fn is_covered(
     alloc: Global,
-    reached: &Reached<'_>,
+    state: &State<'_>,
     clause: &Clause,
 ) -> Result<bool, NoMemory>
-    ensures { IfOk result (λ answer. IsTrue answer ↔ IsCovered reached.now clause.now) }
+    requires { IsIndexed (listed_in state.now.listed) state.now.reached }
+    ensures { IfOk result (λ answer. IsTrue answer ↔ IsCovered state.now.reached clause.now) }
 {
-    if is_needless(alloc, reached, reached.processed.items(), clause)? {
+    if is_tautology(clause) {
         return Ok(true);
     }
-    if is_subsumed(alloc, reached, reached.waiting.items(), clause)? {
-        return Ok(true);
-    }
-    if is_subsumed(alloc, reached, reached.aside.items(), clause)? {
-        return Ok(true);
-    }
-    is_subsumed(alloc, reached, reached.found.items(), clause)
+    let prints = Fingerprints::of(alloc, clause)?;
+    is_under(alloc, &state.reached, &state.listed, clause, &prints)
 }

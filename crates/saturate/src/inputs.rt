@@ -120,7 +120,7 @@ fn has_equality(clause: &Clause) -> bool
 }
 
 /// An atom `(equal s t)` of just two arguments.
-fn is_equality(atom: &Form) -> bool
+pub(crate) fn is_equality(atom: &Form) -> bool
     ensures { result ≡ spec.is_equality atom.now }
 {
     parts_of(atom).len() == 3 && is_headed(atom, b"equal")

@@ -1,13 +1,20 @@
 //! Where a search stands.
-ghost use Rattle.std.specs.Prelude.{◌≡◌, ◌∷◌, ◌++◌, [], ◌<◌, ◌^◌, length, true, IfOk, OnOk, get_or};
+ghost use Rattle.std.specs.Prelude.{◌≡◌, ◌∷◌, ◌++◌, [], ◌<◌, ◌^◌, length, Bool, true, false, Some, IfOk, OnOk, get_or};
 ghost use Rattle.std.specs.Option.{option_map};
 ghost use Rattle.calculus.specs.Rules.{nth};
+ghost use Rattle.kif_tree.specs.Clauses.{Literals};
+ghost use Rattle.unify.specs.Subsumption.{Subsumes};
+ghost use Rattle.infer.specs.Conclusions.{AreConclusions, clause_at};
 ghost use Rattle.infer.specs.declared.conclusion.Conclusion.{Conclusion};
 ghost use Rattle.saturate.specs.Runs as spec;
-ghost use Rattle.saturate.specs.States.{HasWeights};
+ghost use Rattle.saturate.specs.Fingerprints.{fingerprints as prints_of, first_of};
+ghost use Rattle.saturate.specs.Indexes.{IsListed, key_of, listed as listed_in};
+ghost use Rattle.saturate.specs.States.{HasWeights, HasFingerprints};
 ghost use Rattle.std.specs.Prelude.{min, sum, map};
 ghost use Rattle.kif_tree.specs.Terms.{symbols as symbols_in};
 
+use crate::fingerprint::Fingerprints;
+use crate::index::{Index, list};
 use crate::inputs::Inputs;
 use calculus::Step;
 use infer::Conclusion;
@@ -68,6 +75,10 @@ pub(crate) struct State<'a> {
     pub reached: Reached<'a>,
     /// How many symbols the clause of each step has.
     pub weights: Listed<u64>,
+    /// The fingerprints of the clause of each step.
+    pub fingerprints: Listed<Fingerprints>,
+    /// The numbers of all known clauses, and of some that were dropped, by the keys of their first literals.
+    pub listed: Index,
     /// How many derived clauses are processed, wait or are aside.
     pub kept: usize,
 }
@@ -86,21 +97,39 @@ pub(crate) fn weight(clause: &Clause) -> u64
 impl<'a> State<'a> {
     /// The next step, with its clause, which has the number that comes back. More steps than numbers of 32 bits count as want of memory, which
     /// comes long before.
-    pub fn add(&mut self, conclusion: Conclusion) -> Result<u32, NoMemory>
-        requires { HasWeights self.old }
+    pub fn add(&mut self, alloc: Global, conclusion: Conclusion) -> Result<u32, NoMemory>
+        requires weights { HasWeights self.old }
+        requires fingerprints { HasFingerprints self.old }
         ensures number { IfOk result (λ number. number ≡ length self.old.reached.steps) }
         ensures grown { OnOk result (self.new.reached ≡ spec.grown self.old.reached conclusion) }
         ensures kept { OnOk result (self.new.kept ≡ self.old.kept) }
+        ensures listed { OnOk result (self.new.listed ≡ self.old.listed) }
         ensures weights { OnOk result (HasWeights self.new) }
+        ensures fingerprints { OnOk result (HasFingerprints self.new) }
     {
         let Ok(number) = u32::try_from(self.reached.steps.items().len()) else {
             return Err(NoMemory);
         };
         let Conclusion { clause, step } = conclusion;
         self.weights.push(weight(&clause))?;
+        self.fingerprints.push(Fingerprints::of(alloc, &clause)?)?;
         self.reached.derived.push(clause)?;
         self.reached.steps.push(step)?;
         Ok(number)
+    }
+
+    /// Lists the clause by the key of its first literal.
+    pub fn list(&mut self, alloc: Global, number: u32) -> Result<(), NoMemory>
+        requires number { number < length (spec.clauses self.old.reached) }
+        requires fingerprints { HasFingerprints self.old }
+        ensures listed { OnOk result (IsListed (listed_in self.old.listed) (listed_in self.new.listed) (key_of (first_of (clause_at (spec.clauses self.old.reached) number))) number) }
+        ensures reached { OnOk result (self.new.reached ≡ self.old.reached) }
+        ensures weights { OnOk result (self.new.weights ≡ self.old.weights) }
+        ensures fingerprints { OnOk result (self.new.fingerprints ≡ self.old.fingerprints) }
+        ensures kept { OnOk result (self.new.kept ≡ self.old.kept) }
+    {
+        let first = self.fingerprints.items()[number as usize].first;
+        list(alloc, &mut self.listed, first.key(), number)
     }
 
     /// How many symbols the clause has.
@@ -111,6 +140,29 @@ impl<'a> State<'a> {
         match self.weights.items().get(number as usize) {
             Some(weight) => *weight,
             None => 0,
+        }
+    }
+
+    /// Where it is false, the clause subsumes none with these fingerprints.
+    pub fn may_subsume(&self, number: u32, prints: &Fingerprints) -> bool
+        requires { HasFingerprints self.now }
+        ensures { result ≡ false → (general special : Literals) → nth (spec.clauses self.now.reached) number ≡ Some general → prints.now ≡ prints_of special → Subsumes general special → ⊥ }
+    {
+        match self.fingerprints.items().get(number as usize) {
+            Some(own) => own.may_subsume(prints),
+            None => true,
+        }
+    }
+
+    /// Where it is false, nothing follows from the two clauses.
+    pub fn may_meet(&self, given: u32, partner: u32) -> bool
+        requires { HasFingerprints self.now }
+        ensures { result ≡ false → (same : Bool) → AreConclusions (clause_at (spec.clauses self.now.reached) given) (clause_at (spec.clauses self.now.reached) partner) same [] }
+    {
+        let all = self.fingerprints.items();
+        match (all.get(given as usize), all.get(partner as usize)) {
+            (Some(own), Some(other)) => own.may_meet(other),
+            _ => true,
         }
     }
 }

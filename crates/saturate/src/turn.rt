@@ -5,7 +5,7 @@ ghost use Rattle.infer.specs.Conclusions.{clause_at, AreConclusions};
 ghost use Rattle.infer.specs.Plain.{IsPlain, IsPlainConclusion};
 ghost use Rattle.saturate.specs.declared.arrival.Arrival.TheVariants as arrivals;
 ghost use Rattle.saturate.specs.Runs as spec;
-ghost use Rattle.saturate.specs.States.{IsConsistent};
+ghost use Rattle.saturate.specs.States.{HasFingerprints, IsConsistent};
 
 use crate::arrival::{Arrival, arrival_of};
 use crate::choice::{next_given, without};
@@ -33,7 +33,7 @@ pub(crate) fn take_turn(
     let Some(given) = next_given(state, turn) else {
         return Ok(None);
     };
-    let dropped = is_dropped(alloc, &state.reached, given)?;
+    let dropped = is_dropped(alloc, state, given)?;
     state.reached.waiting = without(alloc, given, state.reached.waiting.items())?;
     if dropped {
         state.kept = kept_count(&state.reached);
@@ -45,17 +45,19 @@ pub(crate) fn take_turn(
 }
 
 /// Whether the given clause is no clause of the query, and is a tautology or subsumed by a processed clause.
-fn is_dropped(alloc: Global, reached: &Reached<'_>, given: u32) -> Result<bool, NoMemory>
-    requires { given < length (spec.clauses reached.now) }
-    ensures { IfOk result (λ answer. IsTrue answer ↔ spec.IsDropped reached.now given) }
+fn is_dropped(alloc: Global, state: &State<'_>, given: u32) -> Result<bool, NoMemory>
+    requires given { given < length (spec.clauses state.now.reached) }
+    requires fingerprints { HasFingerprints state.now }
+    ensures { IfOk result (λ answer. IsTrue answer ↔ spec.IsDropped state.now.reached given) }
 {
+    let reached = &state.reached;
     if reached.is_of_query(given) {
         return Ok(false);
     }
     let Some(clause) = reached.clause(given) else {
         return Ok(false);
     };
-    is_needless(alloc, reached, reached.processed.items(), clause)
+    is_needless(alloc, state, reached.processed.items(), clause)
 }
 
 fn kept_count(reached: &Reached<'_>) -> usize
@@ -143,6 +145,9 @@ fn meet(
     ensures consistent { OnOk result (IsConsistent state.new) }
     ensures meets { IfOk result (λ end. spec.Meets limits.now given partner state.old.reached state.new.reached end) }
 {
+    if !state.may_meet(given, partner) {
+        return Ok(None);
+    }
     let list = concluded(alloc, &state.reached, given, partner)?;
     come(alloc, state, limits, given, partner, list)
 }
@@ -271,26 +276,29 @@ fn comes(
     ensures consistent { OnOk result (IsConsistent state.new) }
     ensures comes { IfOk result (λ end. spec.Comes limits.now conclusion state.old.reached state.new.reached end) }
 {
-    match arrival_of(alloc, &state.reached, &conclusion.clause)? {
+    match arrival_of(alloc, state, &conclusion.clause)? {
         Arrival::Contradiction => {
-            state.add(conclusion)?;
+            state.add(alloc, conclusion)?;
             Ok(Some(Ended::Contradiction))
         }
         Arrival::Dropped => Ok(None),
         Arrival::Found => {
-            let number = state.add(conclusion)?;
-            state.reached.found.push(number)?;
+            let found = state.add(alloc, conclusion)?;
+            state.list(alloc, found)?;
+            state.reached.found.push(found)?;
             Ok(enough(state, limits))
         }
         Arrival::Aside => {
-            let number = state.add(conclusion)?;
-            state.reached.aside.push(number)?;
+            let aside = state.add(alloc, conclusion)?;
+            state.list(alloc, aside)?;
+            state.reached.aside.push(aside)?;
             state.kept = state.kept.checked_add(1).ok_or(NoMemory)?;
             Ok(crowded(state, limits))
         }
         Arrival::Waits => {
-            let number = state.add(conclusion)?;
-            state.reached.waiting.push(number)?;
+            let waits = state.add(alloc, conclusion)?;
+            state.list(alloc, waits)?;
+            state.reached.waiting.push(waits)?;
             state.kept = state.kept.checked_add(1).ok_or(NoMemory)?;
             Ok(crowded(state, limits))
         }

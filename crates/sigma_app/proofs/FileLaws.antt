@@ -1,6 +1,6 @@
 -- Files that are found, one after the other.
-use Rattle.std.proofs.Common.{◌≡◌, ◌≢◌, ℕ, ◌+◌, ◌<◌, ◌≤◌, List, [], ◌∷◌, ◌++◌, map, length, Bool, true, false, if◌then◌else◌, ◌||◌, nat_le, Option, Some, None, ◌⊎◌, inl, inr, refl, sym, ap, ◌∙◌, subst, arith, replicate, append_assoc, append-nil, length-append, take, drop, get_or}
-use Rattle.std.specs.Prelude.{IfSome, MatchOption, Vec, find}
+use Rattle.std.proofs.Common.{◌≡◌, ◌≢◌, ℕ, ◌+◌, ◌<◌, ◌≤◌, List, [], ◌∷◌, ◌++◌, map, length, Bool, true, false, if◌then◌else◌, ◌||◌, nat_le, Option, Some, None, ◌⊎◌, inl, inr, refl, sym, ap, ◌∙◌, subst, arith, replicate, append_assoc, append-nil, take, drop, get_or}
+use Rattle.std.specs.Prelude.{IfSome, Vec, find}
 use Rattle.std.specs.Global.{Global}
 use Rattle.std.specs.Option.{option_map}
 use Rattle.std.specs.List.{list_any}
@@ -10,13 +10,9 @@ use Rattle.std.proofs.lemmas.Bool.Decides.{nat_tests}
 use Rattle.std.proofs.lemmas.Bool.{false≢true}
 use Rattle.std.proofs.lemmas.List.{length-replicate, take-append-drop, map-append, map_more, length-map, length-take-le}
 use Rattle.std.specs.Borrow.{Bor}
-use Rattle.sigma_app.proofs.PlainLaws.{IsItem, item_more}
+use Rattle.sigma_app.proofs.ItemLaws.{IsItem, item_more}
 use Rattle.sigma_base.specs.Lists.{Each}
-use Rattle.kif_tree.specs.declared.form.Form.{Form}
 use Rattle.kif_tree.specs.declared.place.Located.{Located}
-use Rattle.kif_reader.specs.declared.bytes.Spot.{Spot}
-use Rattle.kif_reader.specs.declared.kinds.ReadError.{ReadError}
-use Rattle.kif_reader.specs.declared.kinds.ReadError.TheVariants as unread
 use Rattle.kif_tree.specs.Terms.{Bytes}
 use Rattle.sig_io.specs.Causes.{Rose}
 use Rattle.sig_io.specs.Told.{body_of}
@@ -26,8 +22,7 @@ use Rattle.sigma_app.specs.declared.files.Body.TheVariants as body
 use Rattle.sigma_app.specs.declared.reply.Reply.{Reply}
 use Rattle.sigma_app.specs.Requests.{stand_twice}
 use Rattle.sigma_app.specs.Files.{Contents, byte_limit, IsWhole, AreWhole, live_size, AreShort, SpellParts}
-use Rattle.sigma_app.specs.Plain.{IsPlainAtom}
-use Rattle.sigma_app.specs.Tool.{Is, absent_text, long_text, fault_in, IsOnlyForm, SpellsQuery, IsFaulty, HasFault, IsAbsent, IsTooLong, Agrees}
+use Rattle.sigma_app.specs.Tool.{Is, absent_text, long_text, IsFaulty, HasFault, IsAbsent, IsTooLong, Agrees}
 use Rattle.sigma_app.specs.Run.{Over, OnFetches, FetchesOne}
 
 -- ---- the first file of a name
@@ -323,24 +318,3 @@ pub spell_step : (parts : List Part) (i : ℕ) (part : Part) (forms : List Locat
 spell_step parts i part forms more new item spelled mine e =
     subst (λ (fs : List Located). SpellParts (take (i + 1) parts) fs) (sym e)
     (subst (λ (ps : List Part). SpellParts ps (forms ++ more.items)) (sym (item_more parts i part item)) (spell_push (take i parts) part forms more.items spelled mine))
-
--- ---- the query
-
-pub query_read : (text : Bytes) (forms : List Located) (found : Option Form) → Spells 0 text forms → ((others : List Located) → Spells 0 text others → forms ≡ others)
-    → MatchOption found ((located : Located) → forms ≡ located ∷ [] → IsPlainAtom true located.form → ⊥) (λ query. IsOnlyForm forms query × IsPlainAtom true query)
-    → MatchOption found ((query : Form) → SpellsQuery text query → IsPlainAtom true query → ⊥) (λ query. SpellsQuery text query × IsPlainAtom true query)
-query_read text forms None spells one none = λ query spelled plain. none spelled.located (one (spelled.located ∷ []) spelled.spelled) (subst (IsPlainAtom true) (sym spelled.is) plain)
-query_read text forms (Some query) spells one (only, plain) = (record { located = only.located; spelled = subst (Spells 0 text) only.alone spells; is = only.is }, plain)
-
-pub query_unread : (text : Bytes) (error : ReadError) (at : ℕ × Spot) → ((others : List Located) → Spells 0 text others → error ≡ unread.NoMemory) → Some at ≡ fault_in error
-    → (query : Form) → SpellsQuery text query → IsPlainAtom true query → ⊥
-query_unread text error at one is query spelled plain = let no_way : Some at ≡ None = is ∙ ap fault_in (one (spelled.located ∷ []) spelled.spelled) in cc
-
-nothing_before : (rest : List Located) → length rest ≡ 0 → rest ≡ []
-nothing_before [] h = refl
-nothing_before (x ∷ xs) h = absurd (omega (arith, h))
-
-pub only_one : (forms rest : List Located) (located : Located) → length forms ≡ 1 → forms ≡ rest ++ located ∷ [] → IsOnlyForm forms located.form
-only_one forms rest located one e =
-    let none : length rest ≡ 0 = omega (arith, one, ap length e, length-append rest (located ∷ [])) in
-    record { located = located; alone = e ∙ ap (λ (r : List Located). r ++ located ∷ []) (nothing_before rest none); is = refl }

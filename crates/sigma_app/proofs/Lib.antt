@@ -1,12 +1,13 @@
-pub mod AtomLaws
 pub mod EvidenceLaws
 pub mod FileLaws
-pub mod MatchLaws
+pub mod GoodQueryLaws
+pub mod ItemLaws
+pub mod LimitLaws
+pub mod OneQueryLaws
 pub mod OutcomeLaws
 pub mod ParserLaws
 pub mod PlaceLaws
-pub mod PlainLaws
-pub mod ProofLaws
+pub mod QueryLaws
 pub mod RepeatLaws
 pub mod RequestLaws
 pub mod RunLaws

@@ -1,19 +1,12 @@
 -- Why the tool gives one status and one text for the same words and files.
-use Rattle.std.proofs.Common.{◌≡◌, ℕ, ◌+◌, ◌<◌, ◌≤◌, List, [], ◌∷◌, ◌++◌, length, nat_le, Bool, true, false, Some, None, codes, ◌⊎◌, inl, inr, sym, ap, ap₂, ◌∙◌, subst, arith}
-use Rattle.std.specs.Prelude.{slice_get, MatchBool}
+use Rattle.std.proofs.Common.{◌≡◌, ℕ, ◌+◌, ◌≤◌, List, [], ◌∷◌, ◌++◌, length, nat_le, Bool, true, false, Some, None, inl, inr, sym, ap, ◌∙◌, subst, arith}
+use Rattle.std.specs.Prelude.{MatchBool}
 use Rattle.std.proofs.lemmas.Bool.{false≢true}
 use Rattle.std.proofs.lemmas.Bool.Decides.{nat_tests}
-use Rattle.std.proofs.lemmas.Option.{slice_get_within}
-use Rattle.sigma_base.specs.Lists.{Each, each_map, map_each}
-use Rattle.kif_tree.specs.declared.form.Form.{Form}
 use Rattle.kif_tree.specs.declared.place.Located.{Located}
 use Rattle.kif_tree.specs.declared.place.Place.{Place}
-use Rattle.kif_tree.specs.declared.subst.Pair.{Pair}
 use Rattle.kif_tree.specs.Places.{PlacesDiffer}
-use Rattle.kif_tree.specs.Terms.{Bytes, variables, distinct}
-use Rattle.kif_tree.specs.Subst.{lookup}
-use Rattle.kif_tree.proofs.SubstLaws.{Agree, agree_back}
-use Rattle.kif_tree.proofs.VariableLaws.{each_distinct}
+use Rattle.kif_tree.specs.Terms.{Bytes}
 use Rattle.sig_io.specs.Told.{body_of}
 use Rattle.kif_reader.specs.Spelling.{Spells}
 use Rattle.kif_reader.proofs.ReadingIsOneLaws.{spells_unique}
@@ -22,117 +15,28 @@ use Rattle.kif_reader.specs.declared.kinds.ReadError.{ReadError}
 use Rattle.kif_reader.specs.declared.kinds.ReadError.TheVariants as unread
 use Rattle.kif_reader.proofs.OneFaultLaws.{spells_no_fault, fault_unique}
 use Rattle.translate.specs.declared.translated.Translated.{Translated}
+use Rattle.saturate.specs.declared.limits.Limits.{Limits}
+use Rattle.answers.specs.Laws.{OneOutcome, OnePage}
 use Rattle.sigma_app.specs.declared.files.Part.{Part}
-use Rattle.sigma_app.specs.Requests.{Asked, Meaning, asks, checks, gives_clauses, exports, drills, IsTaken, NamesNone, is_refused}
+use Rattle.sigma_app.specs.Requests.{Asked, Meaning, asks, checks, gives_clauses, exports, drills, NamesNone, is_refused}
 use Rattle.sigma_app.proofs.RequestLaws.{means_one, nothing_meant}
-use Rattle.sigma_app.specs.Files.{Contents, byte_limit, file_limit, live_limit, IsWhole, AreWhole, IsReached, live_size, SpellParts}
-use Rattle.sigma_app.specs.Matching.{Fits, IsFirstMatch, value_pair, binding}
-use Rattle.sigma_app.specs.Proof.{values, lines_of}
-use Rattle.sigma_app.specs.Page.{answer_text, end_text}
-use Rattle.sigma_app.specs.Files.{load_names}
+use Rattle.sigma_app.specs.Files.{Contents, byte_limit, file_limit, live_limit, IsWhole, AreWhole, IsReached, live_size, load_names, SpellParts}
 use Rattle.sigma_app.specs.CheckPage.{check_page}
 use Rattle.sigma_app.specs.ClausesPage.{clauses_page}
-use Rattle.sigma_app.specs.Snapshots.{clause_limit, snapshot_text, AreAllDiagnostics}
+use Rattle.sigma_app.specs.Snapshots.{snapshot_text, AreAllDiagnostics}
 use Rattle.sigma_app.proofs.PlaceLaws.{whole_apart}
-use Rattle.sigma_app.specs.Tool.{Is, usage, not_built, absent_text, long_text, live_text, many_text, fault_in, syntax_text, has_option, found_page, Shows, SpellsQuery, OnForms, OnChecked, OnClauses, IsSnapshotFull, Following, IsFaulty, OnTexts, OnParts, OnFiles, OnPaths, OnAsked, OnBuilt, HasMeaning, Tool}
-use Rattle.sigma_app.specs.Laws.{SameOutcome}
+use Rattle.sigma_app.specs.Tool.{Is, usage, not_built, absent_text, long_text, live_text, many_text, fault_in, syntax_text, OnSet, OnQuery, OnChecked, OnClauses, IsSnapshotFull, Following, IsFaulty, OnTexts, OnParts, OnFiles, OnPaths, OnAsked, OnDrill, OnBuilt, HasMeaning, Tool}
+use Rattle.sigma_app.specs.Laws.{SameOutcome, ToolIsOne}
+use Rattle.sigma_app.proofs.OneQueryLaws.{is_one, limits_one, set_one}
 use Rattle.sigma_app.proofs.TranslationLaws.{translations_one, full_once, not_full, all_diagnostics_one}
-
-is_one : (wanted : ℕ) (shown : Bytes) (status other : ℕ) (text page : Bytes) → Is wanted shown status text → Is wanted shown other page → SameOutcome status other text page
-is_one wanted shown status other text page a b = (a.done ∙ sym b.done, a.page_is ∙ sym b.page_is)
 
 named_one : {X : Type 0} (wanted : ℕ) (shown : X → Bytes) (path named : X) (status other : ℕ) (text page : Bytes) → path ≡ named → Is wanted (shown path) status text → Is wanted (shown named) other page
     → SameOutcome status other text page
 named_one wanted shown path named status other text page e a b = (a.done ∙ sym b.done, a.page_is ∙ ap shown e ∙ sym b.page_is)
 
--- ---- what the variables become
-
-agreed : (query fact : Form) (s t : List Pair) → Fits s query fact → Fits t query fact → Each (Agree (lookup s) (lookup t)) (distinct (variables query))
-agreed query fact s t a b =
-    each_distinct (Agree (lookup s) (lookup t)) (variables query) (agree_back (lookup s) (lookup t) query (a ∙ sym b))
-
-same_values : (query fact : Form) (s t : List Pair) → Fits s query fact → Fits t query fact → values query s ≡ values query t
-same_values query fact s t a b = map_each (lookup s) (lookup t) (distinct (variables query)) (agreed query fact s t a b)
-
-pair_of : (s t : List Pair) (name : Bytes) → Agree (lookup s) (lookup t) name → value_pair s name ≡ value_pair t name
-pair_of s t name e = ap (λ (term : Form). record { variable = name; term = term }) e
-
-same_binding : (query fact : Form) (s t : List Pair) → Fits s query fact → Fits t query fact → binding query s ≡ binding query t
-same_binding query fact s t a b =
-    map_each (value_pair s) (value_pair t) (distinct (variables query))
-    (each_map (Agree (lookup s) (lookup t)) (λ name. value_pair s name ≡ value_pair t name) (pair_of s t) (distinct (variables query)) (agreed query fact s t a b))
-
--- ---- the first match
-
-not_before : (query : Form) (facts : List Located) (m n : ℕ) (s t : List Pair) → IsFirstMatch query facts m s → IsFirstMatch query facts n t → m < n → ⊥
-not_before query facts m n s t a b lt = b.earlier m a.fact lt a.stands s a.fits
-
-same_number : (m n : ℕ) → (m < n → ⊥) → (n < m → ⊥) → m ≡ n
-same_number m n a b = grind (arith, nat_tests, a, b)
-
-first_number : (query : Form) (facts : List Located) (m n : ℕ) (s t : List Pair) → IsFirstMatch query facts m s → IsFirstMatch query facts n t → m ≡ n
-first_number query facts m n s t a b = same_number m n (not_before query facts m n s t a b) (not_before query facts n m t s b a)
-
-first_fact : (query : Form) (facts : List Located) (m n : ℕ) (s t : List Pair) (a : IsFirstMatch query facts m s) (b : IsFirstMatch query facts n t) → a.fact ≡ b.fact
-first_fact query facts m n s t a b =
-    let at : Some a.fact ≡ Some b.fact = sym a.stands ∙ ap (λ (k : ℕ). slice_get facts k) (first_number query facts m n s t a b) ∙ b.stands in
-    cc
-
-page_one : (parts : List Part) (query : Form) (fact other : Located) (s t : List Pair) → fact ≡ other → binding query s ≡ binding query t → values query s ≡ values query t
-    → found_page parts query fact s ≡ found_page parts query other t
-page_one parts query fact other s t f b v =
-    ap (λ (text : Bytes). text ++ end_text (codes "enough") 1)
-    (ap₂ (answer_text (load_names parts) 1) b (ap (λ (l : Located). lines_of query l (values query s)) f ∙ ap (lines_of query other) v))
-
--- ---- what is shown
-
-shows_one : (parts : List Part) (facts : List Located) (query : Form) (status other : ℕ) (text page : Bytes)
-    → Shows parts facts query status text → Shows parts facts query other page → SameOutcome status other text page
-shows_one parts facts query status other text page (inl a) (inl b) =
-    let fact = first_fact query facts a.number b.number a.subst b.subst a.first b.first in
-    let fits : Fits b.subst query a.first.fact.form = b.first.fits ∙ sym (ap (λ (l : Located). l.form) fact) in (
-      a.done ∙ sym b.done,
-      a.page
-          ∙ page_one parts query a.first.fact b.first.fact a.subst b.subst fact
-          (same_binding query a.first.fact.form a.subst b.subst a.first.fits fits)
-          (same_values query a.first.fact.form a.subst b.subst a.first.fits fits)
-          ∙ sym b.page,
-    )
-shows_one parts facts query status other text page (inl a) (inr b) = absurd (b.none a.number a.first.fact a.first.stands a.subst a.first.fits)
-shows_one parts facts query status other text page (inr a) (inl b) = absurd (a.none b.number b.first.fact b.first.stands b.subst b.first.fits)
-shows_one parts facts query status other text page (inr a) (inr b) = (a.done ∙ sym b.done, a.page ∙ sym b.page)
-
-query_one : (text : Bytes) (query other : Form) → SpellsQuery text query → SpellsQuery text other → query ≡ other
-query_one text query other a b =
-    let alike : a.located ∷ [] ≡ b.located ∷ [] = spells_unique 0 text (a.located ∷ []) (b.located ∷ []) a.spelled b.spelled in
-    let same : a.located ≡ b.located = cc in
-    sym a.is ∙ ap (λ (l : Located). l.form) same ∙ b.is
-
--- a fact stands past the limit, or there are not so many
-not_past : (facts : List Located) (past : Located) → slice_get facts clause_limit ≡ Some past → length facts ≤ clause_limit → ⊥
-not_past facts past stands within = let long = slice_get_within facts clause_limit past stands in omega (arith, long, within)
-
-past_one : (facts : List Located) (a b : Located) → slice_get facts clause_limit ≡ Some a → slice_get facts clause_limit ≡ Some b → a.place ≡ b.place
-past_one facts a b stands stand = let alike : Some a ≡ Some b = sym stands ∙ stand in let same : a ≡ b = cc in ap (λ (l : Located). l.place) same
-
-forms_one : (asked : Asked) (parts : List Part) (facts : List Located) (status other : ℕ) (text page : Bytes)
-    → OnForms asked parts facts status text → OnForms asked parts facts other page → SameOutcome status other text page
-forms_one asked parts facts status other text page (inl a) (inl b) =
-    shows_one parts facts b.query status other text page
-    (subst (λ (q : Form). Shows parts facts q status text) (query_one asked.query a.query b.query a.plain.spelled b.plain.spelled) a.shown) b.shown
-forms_one asked parts facts status other text page (inl a) (inr (inl b)) = absurd (not_past facts b.past b.stands a.within)
-forms_one asked parts facts status other text page (inl a) (inr (inr b)) = absurd (b.not_plain a.query a.plain)
-forms_one asked parts facts status other text page (inr (inl a)) (inl b) = absurd (not_past facts a.past a.stands b.within)
-forms_one asked parts facts status other text page (inr (inl a)) (inr (inl b)) =
-    named_one 6 (λ (place : Place). snapshot_text (load_names parts) place) a.past.place b.past.place status other text page (past_one facts a.past b.past a.stands b.stands) a.is b.is
-forms_one asked parts facts status other text page (inr (inl a)) (inr (inr b)) = absurd (not_past facts a.past a.stands (b.within a.plain_facts))
-forms_one asked parts facts status other text page (inr (inr a)) (inl b) = absurd (a.not_plain b.query b.plain)
-forms_one asked parts facts status other text page (inr (inr a)) (inr (inl b)) = absurd (not_past facts b.past b.stands (a.within b.plain_facts))
-forms_one asked parts facts status other text page (inr (inr a)) (inr (inr b)) = is_one 10 not_built status other text page a.is b.is
-
 -- ---- the texts
 
-parts_one : (parts : List Part) (facts more : List Located) → SpellParts parts facts → SpellParts parts more → facts ≡ more
+pub parts_one : (parts : List Part) (facts more : List Located) → SpellParts parts facts → SpellParts parts more → facts ≡ more
 parts_one [] facts more a b = a ∙ sym b
 parts_one (part ∷ parts) facts more a b =
     a.2 ∙ (λ i. spells_unique part.number part.text a.0 b.0 a.3 b.3 i ++ parts_one parts a.1 b.1 a.4 b.4 i) ∙ sym b.2
@@ -143,7 +47,7 @@ never at e = cc
 no_memory : (error : ReadError) (code : ℕ) (spot : Spot) → fault_in error ≡ Some (code, spot) → error ≡ unread.NoMemory → ⊥
 no_memory error code spot at is = never (code, spot) (sym (ap fault_in is) ∙ at)
 
-faulty_spelled : (part : Part) (status : ℕ) (text : Bytes) (forms : List Located) → IsFaulty part status text → Spells part.number part.text forms → ⊥
+pub faulty_spelled : (part : Part) (status : ℕ) (text : Bytes) (forms : List Located) → IsFaulty part status text → Spells part.number part.text forms → ⊥
 faulty_spelled part status text forms faulty spells = spells_no_fault part.number part.text forms faulty.error spells faulty.fault (no_memory faulty.error faulty.code faulty.spot faulty.at)
 
 faulty_one : (part : Part) (status other : ℕ) (text page : Bytes) → IsFaulty part status text → IsFaulty part other page → SameOutcome status other text page
@@ -181,7 +85,7 @@ stop_one (first ∷ earlier) (second ∷ before) part other later following a b 
     (record { forms = b.spelled.1; spelled = b.spelled.4; status = b.status; text = b.text; faulty = b.faulty })
     (heads first second (earlier ++ part ∷ later) (before ++ other ∷ following) e).1
 
-spelled_at : (earlier : List Part) (part : Part) (later : List Part) (facts : List Located) → SpellParts (earlier ++ part ∷ later) facts → (mine : List Located) × Spells part.number part.text mine
+pub spelled_at : (earlier : List Part) (part : Part) (later : List Part) (facts : List Located) → SpellParts (earlier ++ part ∷ later) facts → (mine : List Located) × Spells part.number part.text mine
 spelled_at [] part later facts h = (h.0, h.3)
 spelled_at (first ∷ earlier) part later facts h = spelled_at earlier part later h.1 h.4
 
@@ -190,7 +94,7 @@ spelled_at (first ∷ earlier) part later facts h = spelled_at earlier part late
 some_same : (a b : Bytes) → Some a ≡ Some b → a ≡ b
 some_same a b e = cc
 
-whole_one : (contents : Contents) (at : ℕ) (paths : List Bytes) (parts more : List Part) → AreWhole contents at paths parts → AreWhole contents at paths more → parts ≡ more
+pub whole_one : (contents : Contents) (at : ℕ) (paths : List Bytes) (parts more : List Part) → AreWhole contents at paths parts → AreWhole contents at paths more → parts ≡ more
 whole_one contents at [] parts more a b = a ∙ sym b
 whole_one contents at (path ∷ paths) [] more a b = absurd a
 whole_one contents at (path ∷ paths) (part ∷ parts) [] a b = absurd b
@@ -227,18 +131,18 @@ stopped_one : (contents : Contents) (paths : List Bytes) (path other : Bytes) �
     → path ≡ other
 stopped_one contents paths path other a b m n = reached_one contents 1 a.earlier b.earlier path other a.later b.later a.parts b.parts a.whole b.whole m n (sym a.stands ∙ b.stands)
 
-absent_missed : (contents : Contents) (path : Bytes) → body_of contents path ≡ None → IsMissed contents path
+pub absent_missed : (contents : Contents) (path : Bytes) → body_of contents path ≡ None → IsMissed contents path
 absent_missed contents path e part at whole = let no_way : None ≡ Some part.text = sym e ∙ whole.held in cc
 
 within_limit : (n m : ℕ) → n ≡ m → n ≤ byte_limit → nat_le m byte_limit ≡ true
 within_limit n m e h = let here : m ≤ byte_limit = omega (arith, e, h) in grind (arith, nat_tests)
 
-long_missed : (contents : Contents) (path body : Bytes) → body_of contents path ≡ Some body → nat_le (length body) byte_limit ≡ false → IsMissed contents path
+pub long_missed : (contents : Contents) (path body : Bytes) → body_of contents path ≡ Some body → nat_le (length body) byte_limit ≡ false → IsMissed contents path
 long_missed contents path body e long part at whole =
     false≢true (sym long ∙ within_limit (length part.text) (length body) (ap length (some_same part.text body (sym whole.held ∙ e))) whole.short)
 
 -- all files are found, or one isn't
-missed_whole : (contents : Contents) (paths : List Bytes) (path : Bytes) (parts : List Part) → IsReached contents paths path → IsMissed contents path → AreWhole contents 1 paths parts → ⊥
+pub missed_whole : (contents : Contents) (paths : List Bytes) (path : Bytes) (parts : List Part) → IsReached contents paths path → IsMissed contents path → AreWhole contents 1 paths parts → ⊥
 missed_whole contents paths path parts reached missed whole = whole_at 1 reached.earlier parts (subst (λ (ps : List Bytes). AreWhole contents 1 ps parts) reached.stands whole)
   where
     whole_at : (at : ℕ) (earlier : List Bytes) (ps : List Part) → AreWhole contents at (earlier ++ path ∷ reached.later) ps → ⊥
@@ -304,18 +208,7 @@ module _ (Next : Following) (status other : ℕ) (text page : Bytes) (one : (par
       by_count true x y = files_one paths contents x y
       by_count false x y = is_one 6 (many_text (length paths)) status other text page x y
 
--- ---- the words
-
-asked_one : (asked : Asked) (contents : Contents) (status other : ℕ) (text page : Bytes) → OnAsked asked contents status text → OnAsked asked contents other page → SameOutcome status other text page
-asked_one asked contents status other text page a b = by_option (has_option asked) a b
-  where
-    by_option : (option : Bool)
-        → MatchBool option (Is 10 not_built status text) (OnPaths (OnForms asked) asked.paths contents status text)
-        → MatchBool option (Is 10 not_built other page) (OnPaths (OnForms asked) asked.paths contents other page)
-        → SameOutcome status other text page
-    by_option true x y = is_one 10 not_built status other text page x y
-    by_option false x y =
-        paths_one (OnForms asked) status other text page (λ parts forms apart c d. forms_one asked parts forms status other text page c d) asked.paths contents x y
+-- ---- the forms
 
 full_one : (parts : List Part) (forms : List Located) (status other : ℕ) (text page : Bytes) → IsSnapshotFull parts forms status text → IsSnapshotFull parts forms other page → SameOutcome status other text page
 full_one parts forms status other text page a b =
@@ -338,34 +231,60 @@ clauses_one parts forms status other text page (inl a) (inr b) = absurd (not_ful
 clauses_one parts forms status other text page (inr a) (inl b) = absurd (not_full forms b.translated a.place b.have a.full)
 clauses_one parts forms status other text page (inr a) (inr b) = full_one parts forms status other text page a b
 
-built_one : (meaning : Meaning) (contents : Contents) (status other : ℕ) (text page : Bytes) → OnBuilt meaning contents status text → OnBuilt meaning contents other page → SameOutcome status other text page
-built_one (asks asked) contents status other text page a b = asked_one asked contents status other text page a b
-built_one (checks files) contents status other text page a b =
-    paths_one OnChecked status other text page (λ parts forms apart c d. checked_one parts forms status other text page apart c d) files contents a b
-built_one (gives_clauses files) contents status other text page a b =
-    paths_one OnClauses status other text page (λ parts forms apart c d. clauses_one parts forms status other text page c d) files contents a b
-built_one (exports files) contents status other text page a b = is_one 10 not_built status other text page a b
-built_one (drills size) contents status other text page a b = is_one 10 not_built status other text page a b
+-- ---- the words
+
+drill_one : (size : Bytes) (status other : ℕ) (text page : Bytes) → OnDrill size status text → OnDrill size other page → SameOutcome status other text page
+drill_one size status other text page (inl a) (inl b) = is_one 2 usage status other text page a.is b.is
+drill_one size status other text page (inl a) (inr b) = absurd (a.none b.may_be)
+drill_one size status other text page (inr a) (inl b) = absurd (b.none a.may_be)
+drill_one size status other text page (inr a) (inr b) = is_one 10 not_built status other text page a.is b.is
 
 abbrev Judged : Bool → Meaning → Contents → ℕ → Bytes → Type 0
 Judged refused meaning contents status text = MatchBool refused (Is 2 usage status text) (OnBuilt meaning contents status text)
 
-meaning_one : (meaning : Meaning) (contents : Contents) (status other : ℕ) (text page : Bytes) (refused : Bool)
-    → Judged refused meaning contents status text → Judged refused meaning contents other page → SameOutcome status other text page
-meaning_one meaning contents status other text page true a b = is_one 2 usage status other text page a b
-meaning_one meaning contents status other text page false a b = built_one meaning contents status other text page a b
+module _ (one_outcome : OneOutcome) (one_page : OnePage) where
+  query_one : (query : Bytes) (limits : Limits) (parts : List Part) (forms : List Located) (status other : ℕ) (text page : Bytes)
+      → OnQuery query limits parts forms status text → OnQuery query limits parts forms other page → SameOutcome status other text page
+  query_one query limits parts forms status other text page (inl a) (inl b) =
+      let same = translations_one forms a.translated b.translated a.have b.have in
+      set_one one_outcome one_page query limits (load_names parts) b.translated.inputs status other text page
+      (subst (λ (t : Translated). OnSet query limits (load_names parts) t.inputs status text) same a.answers) b.answers
+  query_one query limits parts forms status other text page (inl a) (inr b) = absurd (not_full forms a.translated b.place a.have b.full)
+  query_one query limits parts forms status other text page (inr a) (inl b) = absurd (not_full forms b.translated a.place b.have a.full)
+  query_one query limits parts forms status other text page (inr a) (inr b) = full_one parts forms status other text page a b
 
-has_one : (words : List Bytes) (contents : Contents) (status other : ℕ) (text page : Bytes) → HasMeaning words contents status text → HasMeaning words contents other page → SameOutcome status other text page
-has_one words contents status other text page a b =
-    let same = means_one words a.meaning b.meaning a.means b.means in
-    meaning_one b.meaning contents status other text page (is_refused b.meaning) (subst (λ (m : Meaning). Judged (is_refused m) m contents status text) same a.on_meaning) b.on_meaning
+  asked_one : (asked : Asked) (contents : Contents) (status other : ℕ) (text page : Bytes) → OnAsked asked contents status text → OnAsked asked contents other page → SameOutcome status other text page
+  asked_one asked contents status other text page (inl a) (inl b) = is_one 2 usage status other text page a.is b.is
+  asked_one asked contents status other text page (inl a) (inr b) = absurd (a.none (record { limits = b.limits; are = b.are }))
+  asked_one asked contents status other text page (inr a) (inl b) = absurd (b.none (record { limits = a.limits; are = a.are }))
+  asked_one asked contents status other text page (inr a) (inr b) =
+      paths_one (OnQuery asked.query b.limits) status other text page (λ parts forms apart c d. query_one asked.query b.limits parts forms status other text page c d) asked.paths contents
+      (subst (λ (limits : Limits). OnPaths (OnQuery asked.query limits) asked.paths contents status text) (limits_one asked a.limits b.limits a.are b.are) a.on_paths) b.on_paths
 
-pub tool_one : (words : List Bytes) (contents : Contents) (status other : ℕ) (text page : Bytes)
-    → Tool words contents status text → Tool words contents other page → SameOutcome status other text page ⊎ ((IsTaken words → ⊥) × (Is 2 usage status text ⊎ Is 2 usage other page))
-tool_one words contents status other text page (inl a) (inl b) = inl (has_one words contents status other text page a b)
-tool_one words contents status other text page (inl a) (inr b) = inr (b.not_taken, inr b.is)
-tool_one words contents status other text page (inr a) (inl b) = inr (a.not_taken, inl a.is)
-tool_one words contents status other text page (inr a) (inr b) = inl (is_one 2 usage status other text page a.is b.is)
+  built_one : (meaning : Meaning) (contents : Contents) (status other : ℕ) (text page : Bytes) → OnBuilt meaning contents status text → OnBuilt meaning contents other page → SameOutcome status other text page
+  built_one (asks asked) contents status other text page a b = asked_one asked contents status other text page a b
+  built_one (checks files) contents status other text page a b =
+      paths_one OnChecked status other text page (λ parts forms apart c d. checked_one parts forms status other text page apart c d) files contents a b
+  built_one (gives_clauses files) contents status other text page a b =
+      paths_one OnClauses status other text page (λ parts forms apart c d. clauses_one parts forms status other text page c d) files contents a b
+  built_one (exports files) contents status other text page a b = is_one 10 not_built status other text page a b
+  built_one (drills size) contents status other text page a b = drill_one size status other text page a b
+
+  meaning_one : (meaning : Meaning) (contents : Contents) (status other : ℕ) (text page : Bytes) (refused : Bool)
+      → Judged refused meaning contents status text → Judged refused meaning contents other page → SameOutcome status other text page
+  meaning_one meaning contents status other text page true a b = is_one 2 usage status other text page a b
+  meaning_one meaning contents status other text page false a b = built_one meaning contents status other text page a b
+
+  has_one : (words : List Bytes) (contents : Contents) (status other : ℕ) (text page : Bytes) → HasMeaning words contents status text → HasMeaning words contents other page → SameOutcome status other text page
+  has_one words contents status other text page a b =
+      let same = means_one words a.meaning b.meaning a.means b.means in
+      meaning_one b.meaning contents status other text page (is_refused b.meaning) (subst (λ (m : Meaning). Judged (is_refused m) m contents status text) same a.on_meaning) b.on_meaning
+
+  pub tool_one : ToolIsOne
+  tool_one words contents status other text page (inl a) (inl b) = inl (has_one words contents status other text page a b)
+  tool_one words contents status other text page (inl a) (inr b) = inr (b.not_taken, inr b.is)
+  tool_one words contents status other text page (inr a) (inl b) = inr (a.not_taken, inl a.is)
+  tool_one words contents status other text page (inr a) (inr b) = inl (is_one 2 usage status other text page a.is b.is)
 
 pub others_usage : (words : List Bytes) (contents : Contents) (status : ℕ) (text : Bytes) → NamesNone words → Tool words contents status text → Is 2 usage status text
 others_usage words contents status text none (inl has) = let no_way : None ≡ Some has.meaning = sym (nothing_meant words none) ∙ has.means in absurd (cc)

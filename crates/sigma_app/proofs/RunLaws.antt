@@ -1,17 +1,39 @@
 -- What the parts of a run of the tool say of the whole run.
-use Rattle.std.proofs.Common.{◌≡◌, ℕ, nat_eq, List, length, Bool, true, false, not, ◌&&◌, ◌||◌, nat_le, Option, ◌⊎◌, inl, inr, refl, sym, ap, ◌∙◌, subst, arith}
+use Rattle.std.proofs.Common.{◌≡◌, ℕ, nat_eq, List, length, Bool, true, false, not, ◌&&◌, ◌||◌, if◌then◌else◌, nat_le, Option, ◌⊎◌, inl, inr, refl, sym, ap, ◌∙◌, subst, arith}
 use Rattle.std.specs.Prelude.{MatchBool}
 use Rattle.std.proofs.lemmas.Bool.{false≢true}
-use Rattle.kif_tree.specs.declared.form.Form.{Form}
+use Rattle.kif_tree.specs.declared.place.LoadName.{LoadName}
 use Rattle.kif_tree.specs.declared.place.Located.{Located}
 use Rattle.kif_tree.specs.Terms.{Bytes}
 use Rattle.sig_io.specs.Causes.{Rose}
+use Rattle.clause_form.specs.declared.query.QueryError.{QueryError}
+use Rattle.clause_form.specs.declared.query.QueryError.TheVariants as no_query
+use Rattle.saturate.specs.declared.limits.Limits.{Limits}
+use Rattle.answers.specs.declared.outcome.Outcome.{Outcome}
+use Rattle.answers.specs.Laws.{OneOutcome, OutcomesAreProved}
+use Rattle.saturate.proofs.SoundLaws.{runs_are_sound}
+use Rattle.saturate.proofs.EndsHoldLaws.{ends_hold}
+use Rattle.saturate.proofs.OneRunLaws.{one_run}
+use Rattle.answers.proofs.OneOutcomeLaws.{one_outcome, one_page}
+use Rattle.answers.proofs.ProvedLaws.{outcomes_are_proved}
 use Rattle.sigma_app.specs.declared.files.Part.{Part}
-use Rattle.sigma_app.specs.Requests.{Asked, Meaning, asks, checks, gives_clauses, exports, drills, paths, is_refused}
-use Rattle.sigma_app.specs.Files.{Contents, file_limit, live_limit, live_size}
-use Rattle.sigma_app.specs.Tool.{Is, usage, not_built, live_text, many_text, has_option, is_built, reads_files, Shows, OnForms, OnChecked, OnClauses, Following, OnTexts, OnParts, OnFiles, OnPaths, OnAsked, OnBuilt, Tool, GivesTool}
-use Rattle.sigma_app.proofs.EvidenceLaws.{shows_proof}
+use Rattle.sigma_app.specs.Requests.{Asked, Meaning, asks, checks, gives_clauses, exports, drills, Means, paths, is_refused}
+use Rattle.sigma_app.specs.Files.{Contents, file_limit, live_limit, live_size, load_names}
+use Rattle.sigma_app.specs.Laws.{UsageHasCause}
+use Rattle.sigma_app.specs.Limits.{HasValues}
+use Rattle.sigma_app.specs.Tool.{Is, usage, live_text, many_text, is_built, reads_files, shows_answer, RefusesQuery, ShowsOutcome, OnSet, OnQuery, OnChecked, OnClauses, Following, OnTexts, OnParts, OnFiles, OnPaths, RefusesLimits, RefusesSize, OnBuilt, Tool, GivesTool}
 use Rattle.sigma_app.specs.Run.{IsTrouble, IsCutShort, MayBeRefused, MustBeRefused, Appends, ReportsFault, AppendsPart, IsOwnReply, Obtains, PrintsPart, Printed}
+use Rattle.sigma_app.proofs.EvidenceLaws.{shows_proof}
+use Rattle.sigma_app.proofs.LimitLaws.{options_have_limits}
+use Rattle.sigma_app.proofs.RequestLaws.{options_fit, sizes_fit}
+
+-- whatever the run of a search, what it shows is proved
+are_proved : OutcomesAreProved
+are_proved = outcomes_are_proved runs_are_sound ends_hold
+
+-- and its outcomes are alike
+are_one : OneOutcome
+are_one = one_outcome runs_are_sound one_run
 
 -- ---- the statuses of the tool itself
 
@@ -44,14 +66,29 @@ fine status wanted e h =
       };
     }
 
-shows_own : (parts : List Part) (facts : List Located) (query : Form) (status : ℕ) (text : Bytes) → Shows parts facts query status text → IsOfFiles status
-shows_own parts facts query status text (inl shown) = fine status 0 shown.done refl
-shows_own parts facts query status text (inr shown) = fine status 1 shown.done refl
+refused_own : (error : QueryError) (status : ℕ) (text : Bytes) → RefusesQuery error status text → IsOfFiles status
+refused_own (no_query.Syntax fault) status text refused = fine status 7 refused.is.done refl
+refused_own no_query.NotOneForm status text refused = fine status 7 refused.done refl
+refused_own no_query.RowVariable status text refused = fine status 7 refused.done refl
+refused_own no_query.PredicateVariable status text refused = fine status 7 refused.done refl
+refused_own no_query.HigherOrder status text refused = fine status 7 refused.done refl
+refused_own no_query.TooManyClauses status text refused = fine status 7 refused.done refl
+refused_own no_query.NoMemory status text refused = absurd refused
 
-forms_own : (asked : Asked) (parts : List Part) (facts : List Located) (status : ℕ) (text : Bytes) → OnForms asked parts facts status text → IsOfFiles status
-forms_own asked parts facts status text (inl replies) = shows_own parts facts replies.query status text replies.shown
-forms_own asked parts facts status text (inr (inl overflow)) = fine status 6 overflow.is.done refl
-forms_own asked parts facts status text (inr (inr declines)) = fine status 10 declines.is.done refl
+shows_own : (names : List LoadName) (outcome : Outcome) (status : ℕ) (text : Bytes) → ShowsOutcome names outcome status text → IsOfFiles status
+shows_own names outcome status text shown = by_test (shows_answer outcome.answers outcome.contradiction) shown.done
+  where
+    by_test : (shows : Bool) → status ≡ (if shows then 0 else 1) → IsOfFiles status
+    by_test true e = fine status 0 e refl
+    by_test false e = fine status 1 e refl
+
+query_own : (query : Bytes) (limits : Limits) (parts : List Part) (forms : List Located) (status : ℕ) (text : Bytes) → OnQuery query limits parts forms status text → IsOfFiles status
+query_own query limits parts forms status text (inl asked) = by_set asked.answers
+  where
+    by_set : OnSet query limits (load_names parts) asked.translated.inputs status text → IsOfFiles status
+    by_set (inl refuses) = refused_own refuses.error status text refuses.is
+    by_set (inr shown) = shows_own (load_names parts) shown.outcome status text shown.shows
+query_own query limits parts forms status text (inr full) = fine status 6 full.is.done refl
 
 module _ (Next : Following) (status : ℕ) (text : Bytes) (own : (parts : List Part) (forms : List Located) → Next parts forms status text → IsOfFiles status) where
   texts_own : (parts : List Part) → OnTexts Next parts status text → IsOfFiles status
@@ -77,13 +114,6 @@ module _ (Next : Following) (status : ℕ) (text : Bytes) (own : (parts : List P
       by_count true x = files_own paths contents x
       by_count false x = fine status 6 x.done refl
 
-asked_own : (asked : Asked) (contents : Contents) (status : ℕ) (text : Bytes) → OnAsked asked contents status text → IsOfFiles status
-asked_own asked contents status text h = by_option (has_option asked) h
-  where
-    by_option : (option : Bool) → MatchBool option (Is 10 not_built status text) (OnPaths (OnForms asked) asked.paths contents status text) → IsOfFiles status
-    by_option true x = fine status 10 x.done refl
-    by_option false x = paths_own (OnForms asked) status text (λ parts forms follows. forms_own asked parts forms status text follows) asked.paths contents x
-
 checked_own : (parts : List Part) (forms : List Located) (status : ℕ) (text : Bytes) → OnChecked parts forms status text → IsOfFiles status
 checked_own parts forms status text (inl shown) = fine status 0 shown.is.done refl
 checked_own parts forms status text (inr full) = fine status 6 full.is.done refl
@@ -92,28 +122,64 @@ clauses_own : (parts : List Part) (forms : List Located) (status : ℕ) (text : 
 clauses_own parts forms status text (inl shown) = fine status 0 shown.is.done refl
 clauses_own parts forms status text (inr full) = fine status 6 full.is.done refl
 
-built_own : (meaning : Meaning) (contents : Contents) (status : ℕ) (text : Bytes) → OnBuilt meaning contents status text → IsOfFiles status
-built_own (asks asked) contents status text h = asked_own asked contents status text h
-built_own (checks files) contents status text h = paths_own OnChecked status text (λ parts forms shown. checked_own parts forms status text shown) files contents h
-built_own (gives_clauses files) contents status text h = paths_own OnClauses status text (λ parts forms shown. clauses_own parts forms status text shown) files contents h
-built_own (exports files) contents status text h = fine status 10 h.done refl
-built_own (drills size) contents status text h = fine status 10 h.done refl
-
 -- what the status says of the words
 record Judged (words : List Bytes) (status : ℕ) : Type 0 where
   is_own : IsOwn status
   refuses : status ≡ 2 → MayBeRefused words
   refused : MustBeRefused words → status ≡ 2
 
+-- what isn't refused, and has values that it may have, doesn't have to be refused
+not_refused : (meaning : Meaning) → is_refused meaning ≡ false → HasValues meaning → (is_refused meaning ≡ true) ⊎ (HasValues meaning → ⊥) → ⊥
+not_refused meaning good values (inl refused) = false≢true (sym good ∙ refused)
+not_refused meaning good values (inr no_values) = no_values values
+
 judged : (words : List Bytes) (contents : Contents) (status : ℕ) (text : Bytes) → Tool words contents status text → Judged words status
 judged words contents status text (inl has) = by_test (is_refused has.meaning) refl has.on_meaning
   where
+    own : (meaning : Meaning) → Means words meaning → is_refused meaning ≡ false → HasValues meaning → IsOfFiles status → Judged words status
+    own meaning means good values of_files = record {
+      is_own = of_files.is_own;
+      refuses = λ two. absurd (of_files.not_refused two);
+      refused = λ must. absurd (not_refused meaning good values (must meaning means));
+    }
+
+    -- an option that may not have its value isn't among words that are taken
+    by_limits : (asked : Asked) → Means words (asks asked) → RefusesLimits asked status text → Judged words status
+    by_limits asked means refuses = record {
+      is_own = two_own status refuses.is.done;
+      refuses = λ two. inl (λ taken. refuses.none (options_have_limits asked (options_fit words asked taken means)));
+      refused = λ must. refuses.is.done;
+    }
+
+    -- and neither is a size that a drill may not have
+    by_size : (size : Bytes) → Means words (drills size) → RefusesSize size status text → Judged words status
+    by_size size means refuses = record {
+      is_own = two_own status refuses.is.done;
+      refuses = λ two. inl (λ taken. refuses.none (sizes_fit words size taken means));
+      refused = λ must. refuses.is.done;
+    }
+
+    by_meaning : (meaning : Meaning) → Means words meaning → is_refused meaning ≡ false → OnBuilt meaning contents status text → Judged words status
+    by_meaning (asks asked) means good (inl refuses) = by_limits asked means refuses
+    by_meaning (asks asked) means good (inr limited) =
+        own (asks asked) means good (record { limits = limited.limits; are = limited.are })
+        (paths_own (OnQuery asked.query limited.limits) status text (λ parts forms shown. query_own asked.query limited.limits parts forms status text shown) asked.paths contents limited.on_paths)
+    by_meaning (checks files) means good h =
+        own (checks files) means good tt (paths_own OnChecked status text (λ parts forms shown. checked_own parts forms status text shown) files contents h)
+    by_meaning (gives_clauses files) means good h =
+        own (gives_clauses files) means good tt (paths_own OnClauses status text (λ parts forms shown. clauses_own parts forms status text shown) files contents h)
+    by_meaning (exports files) means good h = own (exports files) means good tt (fine status 10 h.done refl)
+    by_meaning (drills size) means good (inl refuses) = by_size size means refuses
+    by_meaning (drills size) means good (inr lacks) = own (drills size) means good lacks.may_be (fine status 10 lacks.is.done refl)
+
     by_test : (refused : Bool) → is_refused has.meaning ≡ refused → MatchBool refused (Is 2 usage status text) (OnBuilt has.meaning contents status text) → Judged words status
     by_test true e is = record { is_own = two_own status is.done; refuses = λ two. inr (has.meaning, has.means, e); refused = λ must. is.done }
-    by_test false e built =
-        let own = built_own has.meaning contents status text built in
-        record { is_own = own.is_own; refuses = λ two. absurd (own.not_refused two); refused = λ must. absurd (false≢true (sym e ∙ must has.meaning has.means)) }
+    by_test false e built = by_meaning has.meaning has.means e built
 judged words contents status text (inr none) = record { is_own = two_own status none.is.done; refuses = λ two. inl none.not_taken; refused = λ must. none.is.done }
+
+-- the usage has a cause in the words
+pub usage_caused : UsageHasCause
+usage_caused words contents status text tool two = (judged words contents status text tool).refuses two
 
 -- words whose files are read are not refused
 read_good : (meaning : Meaning) → reads_files meaning ≡ true → is_refused meaning ≡ false
@@ -141,7 +207,7 @@ module _ (words : List Bytes) (told : Option Contents) (before now status : ℕ)
     text = text;
     gives = given_at reply.gives (sym all.is);
     proved = λ asked means zero_is.
-        shows_proof words reply.gives.contents result text zero_is asked means (subst (λ (s : ℕ). Tool words reply.gives.contents s text) (sym all.is) reply.gives.tool);
+        shows_proof are_proved are_one one_page words reply.gives.contents result text zero_is asked means (subst (λ (s : ℕ). Tool words reply.gives.contents s text) (sym all.is) reply.gives.tool);
     appended = all.appended;
   })
   answered (inr reply) (inl all) = inl (inl (all.is ∙ reply.four))
@@ -158,7 +224,7 @@ module _ (words : List Bytes) (told : Option Contents) (before now status : ℕ)
   part_of : Obtains words told before now status text → PrintsPart text old new sink_before sink_now result → AppendsPart words told before now old new
   part_of (inl reply) part = (
     text,
-    record { status = status; either = inl (record { gives = reply.gives; proved = λ asked means zero_is. shows_proof words reply.gives.contents status text zero_is asked means reply.gives.tool }, reply.quiet) },
+    record { status = status; either = inl (record { gives = reply.gives; proved = λ asked means zero_is. shows_proof are_proved are_one one_page words reply.gives.contents status text zero_is asked means reply.gives.tool }, reply.quiet) },
     part.prefix,
   )
   part_of (inr reply) part = (text, record { status = status; either = inr ((reply.four, reply.names), reply.rose) }, part.prefix)
@@ -187,7 +253,7 @@ module _ (words : List Bytes) (told : Option Contents) (before now status : ℕ)
   pub refused : Obtains words told before now status text → Printed status text old new sink_before sink_now result → MustBeRefused words → (result ≡ 2) ⊎ IsCutShort result
   refused (inl reply) (inl all) must = inl (all.is ∙ (judge reply).refused must)
   refused (inr reply) (inl all) must =
-      let fault = reply.names.fault in absurd (false≢true (sym (read_good fault.meaning fault.reads) ∙ must fault.meaning fault.means))
+      let fault = reply.names.fault in absurd (not_refused fault.meaning (read_good fault.meaning fault.reads) fault.values (must fault.meaning fault.means))
   refused reply (inr part) must = inr (trouble part.cause)
 
   pub file_fault : Obtains words told before now status text → Printed status text old new sink_before sink_now result → result ≡ 4 → ReportsFault words told before now old new

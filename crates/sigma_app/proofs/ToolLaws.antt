@@ -1,22 +1,14 @@
 -- How a reply is put together, and why it is the tool's.
-use Rattle.std.proofs.Common.{◌≡◌, ℕ, ◌<◌, ◌⊎◌, List, [], ◌++◌, map, length, get_or, Bool, true, false, not, ◌&&◌, nat_le, Option, Some, None, Result, Ok, Err, codes, ◌≤◌, inl, inr, refl, sym, ap, ap₂, ◌∙◌, subst, arith}
-use Rattle.std.specs.Prelude.{slice_get, IfOk, MatchBool, MatchOption}
+use Rattle.std.proofs.Common.{◌≡◌, ℕ, ◌<◌, ◌⊎◌, List, [], length, Bool, true, false, not, ◌&&◌, nat_le, Option, Some, None, Result, Ok, Err, ◌≤◌, inl, inr, refl, sym, ap, ◌∙◌, subst, arith}
+use Rattle.std.specs.Prelude.{IfOk, MatchBool}
 use Rattle.std.specs.Borrow.{Bor}
-use Rattle.std.proofs.lemmas.Option.{slice_get_read}
 use Rattle.std.proofs.lemmas.List.{length-map}
 use Rattle.sig_io.specs.Causes.{Rose}
 use Rattle.std.proofs.lemmas.Bool.Decides.{nat_tests}
-use Rattle.sigma_base.specs.Lists.{Each, map_twice}
-use Rattle.kif_tree.specs.declared.form.Form.{Form}
-use Rattle.kif_tree.specs.declared.place.Located.{Located}
-use Rattle.kif_tree.specs.declared.place.LoadName.{LoadName}
-use Rattle.kif_tree.specs.declared.subst.Pair.{Pair}
 use Rattle.kif_tree.specs.Places.{PlacesDiffer}
-use Rattle.kif_tree.specs.Terms.{Bytes, variables, distinct}
-use Rattle.sigma_app.specs.declared.page.ProofLine.{ProofLine}
-use Rattle.sigma_app.specs.Matching.{IsFirstMatch, binding, value_pair}
-use Rattle.sigma_app.specs.Page.{answer_text, end_text}
-use Rattle.sigma_app.specs.Proof.{values, lines_of}
+use Rattle.translate.specs.Inputs.{AreShaped}
+use Rattle.saturate.specs.declared.limits.Limits.{Limits}
+use Rattle.kif_tree.specs.Terms.{Bytes}
 use Rattle.sigma_app.specs.declared.files.Part.{Part}
 use Rattle.sigma_app.specs.declared.files.Fetching.TheVariants.{Stopped}
 use Rattle.sigma_app.specs.declared.gather.Gathered.{Gathered}
@@ -25,74 +17,16 @@ use Rattle.sigma_app.specs.declared.gather.Gathering.TheVariants as gathering
 use Rattle.sigma_app.specs.declared.reply.Reply.{Reply}
 use Rattle.sigma_base.specs.declared.memory.NoMemory.{NoMemory}
 use Rattle.sigma_app.specs.Requests.{Asked, texts, Meaning, asks, checks, gives_clauses, exports, drills, paths, Means, IsTaken, is_refused}
-use Rattle.sigma_app.specs.Plain.{IsPlainAtom}
-use Rattle.sigma_app.specs.Files.{Contents, file_limit, live_limit, AreWhole, AreShort, live_size, load_names, SpellParts}
-use Rattle.sigma_app.specs.Snapshots.{clause_limit, snapshot_text}
-use Rattle.sigma_app.specs.Tool.{Is, usage, not_built, live_text, many_text, has_option, is_built, reads_files, found_page, Shows, SpellsQuery, IsPlainFact, IsPlain, OnForms, OnChecked, OnClauses, Following, Nothing, HasFault, OnTexts, OnParts, GathersParts, IsAbsent, IsTooLong, OnFiles, OnPaths, OnAsked, OnBuilt, HasMeaning}
+use Rattle.sigma_app.specs.Files.{Contents, file_limit, live_limit, AreWhole, AreShort, live_size, SpellParts}
+use Rattle.sigma_app.specs.Limits.{AreLimits, HasValues}
+use Rattle.sigma_app.specs.Tool.{Is, usage, live_text, many_text, is_built, reads_files, OnQuery, OnChecked, OnClauses, Following, Nothing, HasFault, OnTexts, OnParts, GathersParts, IsAbsent, IsTooLong, OnFiles, OnPaths, OnBuilt, HasMeaning}
 use Rattle.sigma_app.specs.Run.{Over, Fails, Fetches, OnFewFiles, OnNamedFiles, Gathers, OnAsk, OnGoodRequest, OnRequest, Obtains}
 use Rattle.sigma_app.proofs.FileLaws.{whole_short, whole_length}
 use Rattle.sigma_app.proofs.PlaceLaws.{whole_apart}
-
-abbrev pub term_of : Pair → Form
-term_of pair = pair.term
-
--- the terms of the binding are what the variables become
-pub map-binding : (query : Form) (s : List Pair) → map term_of (binding query s) ≡ values query s
-map-binding query s = sym (map_twice (value_pair s) term_of (distinct (variables query)))
-
-pub page_made : (parts : List Part) (query : Form) (fact : Located) (s : List Pair) (names : List LoadName) (bound terms : List Pair) (lines : List ProofLine) (first second third : Bytes)
-    → names ≡ load_names parts → bound ≡ binding query s → terms ≡ binding query s → lines ≡ lines_of query fact (map term_of terms)
-    → first ≡ [] → second ≡ first ++ answer_text names 1 bound lines → third ≡ second ++ end_text (codes "enough") 1 → third ≡ found_page parts query fact s
-page_made parts query fact s names bound terms lines first second third n b t l f e g =
-    let lines_are : lines ≡ lines_of query fact (values query s) = l ∙ ap (lines_of query fact) (ap (map term_of) t ∙ map-binding query s) in
-    let answer_is : second ≡ answer_text (load_names parts) 1 (binding query s) (lines_of query fact (values query s)) =
-    e ∙ ap (λ (text : Bytes). text ++ answer_text names 1 bound lines) f ∙ ap (λ (ns : List LoadName). answer_text ns 1 bound lines) n ∙ ap₂ (answer_text (load_names parts) 1) b lines_are in
-    g ∙ ap (λ (text : Bytes). text ++ end_text (codes "enough") 1) answer_is
-
--- the fact that was read is the first that answers
-pub shown_found : (parts : List Part) (facts : List Located) (query : Form) (number : ℕ) (s : List Pair) (item : Located) (page : Bytes)
-    → IsFirstMatch query facts number s → number < length facts → item ≡ get_or facts number item → page ≡ found_page parts query item s → Shows parts facts query 0 page
-shown_found parts facts query number s item page first lt is e =
-    let here : slice_get facts number ≡ Some item = slice_get_read facts _ number item refl lt is in
-    let stands : slice_get facts number ≡ Some first.fact = first.stands in
-    let same_fact : item ≡ first.fact = cc in
-    inl (record { number = number; subst = s; first = first; done = refl; page = e ∙ ap (λ (fact : Located). found_page parts query fact s) same_fact })
-
--- ---- over the forms of all files
+use Rattle.sigma_app.proofs.QueryLaws.{spelled_parts_shaped}
 
 abbrev Replied : Type 0
 Replied = Result Reply NoMemory
-
-pub replies : (asked : Asked) (parts : List Part) (facts : List Located) (query : Form) → Each IsPlainFact facts → length facts ≤ clause_limit → SpellsQuery asked.query query × IsPlainAtom true query
-    → (r : Replied) → IfOk r (λ reply. Shows parts facts query reply.status reply.text) → IfOk r (λ reply. OnForms asked parts facts reply.status reply.text)
-replies asked parts facts query plain within (spelled, plain_query) (Ok reply) shown =
-    inl (record { within = within; query = query; plain = record { plain_facts = plain; spelled = spelled; plain_query = plain_query }; shown = shown })
-replies asked parts facts query plain within read (Err error) shown = tt
-
--- a form isn't plain
-pub declines_forms : (asked : Asked) (parts : List Part) (facts : List Located) → (Each IsPlainFact facts → ⊥)
-    → (r : Replied) → IfOk r (λ reply. Is 10 not_built reply.status reply.text) → IfOk r (λ reply. OnForms asked parts facts reply.status reply.text)
-declines_forms asked parts facts none (Ok reply) is = inr (inr (record { not_plain = λ query plain. none plain.plain_facts; within = λ plain. absurd (none plain); is = is }))
-declines_forms asked parts facts none (Err error) is = tt
-
-pub declines : (asked : Asked) (parts : List Part) (facts : List Located) → length facts ≤ clause_limit → ((query : Form) → IsPlain asked facts query → ⊥)
-    → (r : Replied) → IfOk r (λ reply. Is 10 not_built reply.status reply.text) → IfOk r (λ reply. OnForms asked parts facts reply.status reply.text)
-declines asked parts facts within none (Ok reply) is = inr (inr (record { not_plain = none; within = λ plain. within; is = is }))
-declines asked parts facts within none (Err error) is = tt
-
-pub overflows : (asked : Asked) (parts : List Part) (facts : List Located) (past : Located) (names : List LoadName) → Each IsPlainFact facts → slice_get facts clause_limit ≡ Some past
-    → names ≡ load_names parts → (r : Replied) → IfOk r (λ reply. Is 6 (snapshot_text names past.place) reply.status reply.text) → IfOk r (λ reply. OnForms asked parts facts reply.status reply.text)
-overflows asked parts facts past names plain stands named (Ok reply) is =
-    inr (inl (record { plain_facts = plain; past = past; stands = stands; is = subst (λ (ns : List LoadName). Is 6 (snapshot_text ns past.place) reply.status reply.text) named is }))
-overflows asked parts facts past names plain stands named (Err error) is = tt
-
--- the fact past the limit, or none
-pub past_stands : (facts : List Located) (past : Located) → clause_limit < length facts → past ≡ get_or facts clause_limit past → slice_get facts clause_limit ≡ Some past
-past_stands facts past long is = slice_get_read facts _ clause_limit past refl long is
-
-pub none_stands : (facts : List Located) (got : Option (Bor Located)) (P : Bor Located → Type 0) → ((past : Bor Located) → got ≡ Some past → ⊥) → MatchOption got (length facts ≤ clause_limit) P → length facts ≤ clause_limit
-none_stands facts (Some past) P none is = absurd (none past refl)
-none_stands facts None P none is = is
 
 -- ---- over the parts
 
@@ -241,62 +175,36 @@ named_found Next paths told before now found gathers (Err error) next = tt
 pub gathered_apart : (paths : List Bytes) (told : Option Contents) (before now : ℕ) (found : Gathered) → Gathers paths told before now (gathering.Found found) → PlacesDiffer found.forms.items
 gathered_apart paths told before now found (quiet, over) = whole_apart over.contents paths found.parts found.forms.items over.holds.whole over.holds.spelled
 
--- ---- a query and a check
+-- and have the shape of forms that are read
+pub gathered_shaped : (paths : List Bytes) (told : Option Contents) (before now : ℕ) (found : Gathered) → Gathers paths told before now (gathering.Found found) → AreShaped found.forms.items
+gathered_shaped paths told before now found (quiet, over) = spelled_parts_shaped found.parts found.forms.items over.holds.spelled
+
+-- ---- a query
 
 any_over : (told : Option Contents) (P : Contents → Type 0) → ((contents : Contents) → P contents) → Over told P
 any_over (Some files) P h = record { contents = files; agrees = refl; holds = h files }
 any_over None P h = record { contents = []; agrees = tt; holds = h [] }
 
-abbrev Asking : Bool → Asked → Option Contents → ℕ → ℕ → ℕ → Bytes → Type 0
-Asking option asked told before now status text =
-    MatchBool option ((now ≡ before) × Is 10 not_built status text) (OnNamedFiles (OnForms asked) asked.paths told before now status text)
+pub ask_found : (asked : Asked) (limits : Limits) (told : Option Contents) (before now : ℕ) (found : Gathered) → AreLimits asked limits
+    → Gathers asked.paths told before now (gathering.Found found)
+    → (r : Replied) → IfOk r (λ reply. OnQuery asked.query limits found.parts found.forms.items reply.status reply.text) → IfOk r (λ reply. OnAsk asked told before now reply.status reply.text)
+ask_found asked limits told before now found are gathers (Ok reply) next =
+    inr (record { limits = limits; are = are; on_files = named_found (OnQuery asked.query limits) asked.paths told before now found gathers (Ok reply) next })
+ask_found asked limits told before now found are gathers (Err error) next = tt
 
-asking : (asked : Asked) (option : Bool) (told : Option Contents) (before now status : ℕ) (text : Bytes) → has_option asked ≡ option
-    → Asking option asked told before now status text → OnAsk asked told before now status text
-asking asked option told before now status text e h = subst (λ (b : Bool). Asking b asked told before now status text) (sym e) h
-
-pub ask_option : (asked : Asked) (told : Option Contents) (count : ℕ) → has_option asked ≡ true
-    → (r : Replied) → IfOk r (λ reply. Is 10 not_built reply.status reply.text) → IfOk r (λ reply. OnAsk asked told count count reply.status reply.text)
-ask_option asked told count e (Ok reply) is = asking asked true told count count reply.status reply.text e (refl, is)
-ask_option asked told count e (Err error) is = tt
-
-pub ask_found : (asked : Asked) (told : Option Contents) (before now : ℕ) (found : Gathered) → has_option asked ≡ false → Gathers asked.paths told before now (gathering.Found found)
-    → (r : Replied) → IfOk r (λ reply. OnForms asked found.parts found.forms.items reply.status reply.text) → IfOk r (λ reply. OnAsk asked told before now reply.status reply.text)
-ask_found asked told before now found e gathers (Ok reply) next =
-    asking asked false told before now reply.status reply.text e (named_found (OnForms asked) asked.paths told before now found gathers (Ok reply) next)
-ask_found asked told before now found e gathers (Err error) next = tt
-
-pub ask_stopped : (asked : Asked) (told : Option Contents) (before now : ℕ) (reply : Reply) → has_option asked ≡ false → Gathers asked.paths told before now (gathering.Stopped reply)
-    → OnAsk asked told before now reply.status reply.text
-ask_stopped asked told before now reply e stopped =
-    asking asked false told before now reply.status reply.text e (named_stopped (OnForms asked) reply.status reply.text asked.paths told before now stopped)
+pub ask_stopped : (asked : Asked) (limits : Limits) (told : Option Contents) (before now : ℕ) (reply : Reply) → AreLimits asked limits
+    → Gathers asked.paths told before now (gathering.Stopped reply) → OnAsk asked told before now reply.status reply.text
+ask_stopped asked limits told before now reply are stopped =
+    inr (record { limits = limits; are = are; on_files = named_stopped (OnQuery asked.query limits) reply.status reply.text asked.paths told before now stopped })
 
 -- files are read where nothing is in the way
 reads : (meaning : Meaning) → is_refused meaning ≡ false → is_built meaning ≡ true → nat_le (length (paths meaning)) file_limit ≡ true → reads_files meaning ≡ true
 reads meaning good built few = λ i. not (good i) && (built i && few i)
 
--- where they aren't, they are too many
-pub reads_none : (meaning : Meaning) → is_refused meaning ≡ false → is_built meaning ≡ true → reads_files meaning ≡ false → nat_le (length (paths meaning)) file_limit ≡ false
-reads_none meaning good built none = sym (λ i. not (good i) && (built i && nat_le (length (paths meaning)) file_limit)) ∙ none
-
 -- ---- a request
 
 abbrev OnTest : Bool → Meaning → Option Contents → ℕ → ℕ → ℕ → Bytes → Type 0
 OnTest refused meaning told before now status text = MatchBool refused ((now ≡ before) × Is 2 usage status text) (OnGoodRequest meaning told before now status text)
-
-pub refuses : (meaning : Meaning) (told : Option Contents) (count : ℕ) → is_refused meaning ≡ true
-    → (r : Replied) → IfOk r (λ reply. Is 2 usage reply.status reply.text) → IfOk r (λ reply. OnRequest meaning told count count reply.status reply.text)
-refuses meaning told count e (Ok reply) is = subst (λ (b : Bool). OnTest b meaning told count count reply.status reply.text) (sym e) (refl, is)
-refuses meaning told count e (Err error) is = tt
-
-pub goes_on : (meaning : Meaning) (told : Option Contents) (before now : ℕ) → is_refused meaning ≡ false
-    → (r : Replied) → IfOk r (λ reply. OnGoodRequest meaning told before now reply.status reply.text) → IfOk r (λ reply. OnRequest meaning told before now reply.status reply.text)
-goes_on meaning told before now e (Ok reply) h = subst (λ (b : Bool). OnTest b meaning told before now reply.status reply.text) (sym e) h
-goes_on meaning told before now e (Err error) h = tt
-
-pub unbuilt : (count : ℕ) (r : Replied) → IfOk r (λ reply. Is 10 not_built reply.status reply.text) → IfOk r (λ reply. (count ≡ count) × Is 10 not_built reply.status reply.text)
-unbuilt count (Ok reply) is = (refl, is)
-unbuilt count (Err error) is = tt
 
 -- ---- the whole tool
 
@@ -319,21 +227,21 @@ module _ (words : List Bytes) (meaning : Meaning) (told : Option Contents) (befo
   unread : ((contents : Contents) → HasMeaning words contents status text) → now ≡ before → Obtains words told before now status text
   unread f quiet = plainly (λ contents. Unit {0}) (λ contents h. f contents) (any_over told (λ contents. Unit {0}) (λ contents. tt)) quiet
 
-  failed_at : reads_files meaning ≡ true → Rose before now → Fails (paths meaning) told status text → Obtains words told before now status text
-  failed_at may rose failed = inr (record {
+  failed_at : reads_files meaning ≡ true → HasValues meaning → Rose before now → Fails (paths meaning) told status text → Obtains words told before now status text
+  failed_at may values rose failed = inr (record {
     rose = rose;
     four = failed.is.done;
     names = record {
       contents = failed.reached.contents;
       agrees = failed.reached.agrees;
-      fault = record { meaning = meaning; means = means; reads = may; path = failed.path; reached = failed.reached.holds; page = failed.is.page_is };
+      fault = record { meaning = meaning; means = means; reads = may; values = values; path = failed.path; reached = failed.reached.holds; page = failed.is.page_is };
     };
   })
 
-  over_paths : (Next : Following) → is_refused meaning ≡ false → is_built meaning ≡ true
+  over_paths : (Next : Following) → is_refused meaning ≡ false → is_built meaning ≡ true → HasValues meaning
       → ((contents : Contents) → OnPaths Next (paths meaning) contents status text → OnBuilt meaning contents status text)
       → OnNamedFiles Next (paths meaning) told before now status text → Obtains words told before now status text
-  over_paths Next good built make h = by_count (nat_le (length (paths meaning)) file_limit) refl h
+  over_paths Next good built values make h = by_count (nat_le (length (paths meaning)) file_limit) refl h
     where
       on_paths : (few : Bool) (contents : Contents) → nat_le (length (paths meaning)) file_limit ≡ few
           → MatchBool few (OnFiles Next (paths meaning) contents status text) (Is 6 (many_text (length (paths meaning))) status text) → HasMeaning words contents status text
@@ -344,29 +252,22 @@ module _ (words : List Bytes) (meaning : Meaning) (told : Option Contents) (befo
 
       by_count : (few : Bool) → nat_le (length (paths meaning)) file_limit ≡ few → Counted few Next (paths meaning) told before now status text → Obtains words told before now status text
       by_count true e (inl (quiet, over)) = plainly (λ contents. OnFiles Next (paths meaning) contents status text) (λ contents x. on_paths true contents e x) over quiet
-      by_count true e (inr (rose, failed)) = failed_at (reads meaning good built e) rose failed
+      by_count true e (inr (rose, failed)) = failed_at (reads meaning good built e) values rose failed
       by_count false e (quiet, is) = unread (λ contents. on_paths false contents e is) quiet
 
 module _ (words : List Bytes) (told : Option Contents) (before now status : ℕ) (text : Bytes) where
   asked_obtains : (asked : Asked) → Means words (asks asked) → is_refused (asks asked) ≡ false → OnAsk asked told before now status text → Obtains words told before now status text
-  asked_obtains asked means good h = by_option (has_option asked) refl h
-    where
-      on_asked : (option : Bool) (contents : Contents) → has_option asked ≡ option
-          → MatchBool option (Is 10 not_built status text) (OnPaths (OnForms asked) asked.paths contents status text) → OnAsked asked contents status text
-      on_asked option contents e x =
-          subst (λ (b : Bool). MatchBool b (Is 10 not_built status text) (OnPaths (OnForms asked) asked.paths contents status text)) (sym e) x
-
-      by_option : (option : Bool) → has_option asked ≡ option → Asking option asked told before now status text → Obtains words told before now status text
-      by_option true e (quiet, is) =
-          unread words (asks asked) told before now status text means
-          (λ contents. meant words (asks asked) told before now status text means false contents good (on_asked true contents e is)) quiet
-      by_option false e x =
-          over_paths words (asks asked) told before now status text means (OnForms asked) good (ap not e) (λ contents y. on_asked false contents e y) x
+  asked_obtains asked means good (inl (quiet, refuses)) =
+      unread words (asks asked) told before now status text means
+      (λ contents. meant words (asks asked) told before now status text means false contents good (inl refuses)) quiet
+  asked_obtains asked means good (inr limited) =
+      over_paths words (asks asked) told before now status text means (OnQuery asked.query limited.limits) good refl (record { limits = limited.limits; are = limited.are })
+      (λ contents y. inr (record { limits = limited.limits; are = limited.are; on_paths = y })) limited.on_files
 
   good_obtains : (meaning : Meaning) → Means words meaning → is_refused meaning ≡ false → OnGoodRequest meaning told before now status text → Obtains words told before now status text
   good_obtains (asks asked) means good h = asked_obtains asked means good h
-  good_obtains (checks files) means good h = over_paths words (checks files) told before now status text means OnChecked good refl (λ contents x. x) h
-  good_obtains (gives_clauses files) means good h = over_paths words (gives_clauses files) told before now status text means OnClauses good refl (λ contents x. x) h
+  good_obtains (checks files) means good h = over_paths words (checks files) told before now status text means OnChecked good refl tt (λ contents x. x) h
+  good_obtains (gives_clauses files) means good h = over_paths words (gives_clauses files) told before now status text means OnClauses good refl tt (λ contents x. x) h
   good_obtains (exports files) means good (quiet, is) =
       unread words (exports files) told before now status text means (λ contents. meant words (exports files) told before now status text means false contents good is) quiet
   good_obtains (drills size) means good (quiet, is) =

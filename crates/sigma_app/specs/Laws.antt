@@ -1,18 +1,19 @@
 -- Laws of the definitions.
-use Rattle.std.specs.Prelude.{◌≡◌, Bool, true, false, ◌⊎◌, ℕ, List}
-use Rattle.kif_tree.specs.declared.form.Form.{Form}
-use Rattle.kif_tree.specs.Terms.{Bytes, is_ground, has_no_row}
-use Rattle.kif_tree.specs.Clauses.{is_headed}
-use Rattle.sigma_app.specs.Plain.{is_plain_head, IsPlainAtom}
+use Rattle.std.specs.Prelude.{◌≡◌, ◌≢◌, false, ◌⊎◌, ℕ, List, Ok}
+use Rattle.kif_tree.specs.Terms.{Bytes}
+use Rattle.clause_form.specs.declared.query.QueryClauses.{QueryClauses}
+use Rattle.clause_form.specs.Queries.{IsQueryAnswer}
 use Rattle.diagnose.specs.declared.diagnostic.Diagnostic.{Diagnostic}
 use Rattle.translate.specs.declared.translated.Translated.{Translated}
+use Rattle.unify.specs.ClauseSets.{IsClauseSet}
 use Rattle.sigma_app.specs.Snapshots.{HaveTranslation, AreFull, AreAllDiagnostics}
 use Rattle.kif_tree.specs.declared.place.Located.{Located}
 use Rattle.kif_tree.specs.declared.place.Place.{Place}
 use Rattle.sigma_app.specs.declared.files.Part.{Part}
-use Rattle.sigma_app.specs.Requests.{checks, gives_clauses, Means, IsTaken, NamesNone}
-use Rattle.sigma_app.specs.Files.{Contents, HaveForms}
+use Rattle.sigma_app.specs.Requests.{Asked, asks, checks, gives_clauses, Means, IsTaken, NamesNone, is_refused}
+use Rattle.sigma_app.specs.Files.{Contents, SpellParts, HaveForms}
 use Rattle.sigma_app.specs.Tool.{Is, usage, Tool}
+use Rattle.sigma_app.specs.Run.{MayBeRefused}
 
 -- a status and a text for which this holds
 abbrev pub Outcome : (ℕ → Bytes → Type 0) → Type 0
@@ -22,9 +23,32 @@ Outcome Gives = (status : ℕ) × (text : Bytes) × Gives status text
 abbrev pub Translating : List Bytes → List Bytes → Type 0
 Translating words files = Means words (checks files) ⊎ Means words (gives_clauses files)
 
+-- the words ask a query
+abbrev pub Asking : List Bytes → Type 0
+Asking words = (asked : Asked) × Means words (asks asked)
+
 -- the tool has an outcome for every list of words for which no translation is needed, whatever the files hold
 abbrev pub ToolAnswers : Type 0
-ToolAnswers = (words : List Bytes) (contents : Contents) → ((files : List Bytes) → Translating words files → ⊥) → Outcome (Tool words contents)
+ToolAnswers = (words : List Bytes) (contents : Contents) → ((files : List Bytes) → Translating words files → ⊥) → (Asking words → ⊥) → Outcome (Tool words contents)
+
+-- The words ask a query that is one, over files that are there, within the limits and spelled, whose clauses are not too many: where the tool
+-- doesn't refuse the words, it shows an answer or a contradiction, or that there is none.
+abbrev pub GoodQueriesAreAnswered : Type 0
+GoodQueriesAreAnswered = (words : List Bytes) (contents : Contents) (asked : Asked) (parts : List Part) (forms : List Located)
+    (query : QueryClauses) (status : ℕ) (text : Bytes)
+    → Means words (asks asked) → is_refused (asks asked) ≡ false
+    → HaveForms contents asked.paths parts forms → ((place : Place) → AreFull forms place → ⊥) → IsQueryAnswer asked.query (Ok query)
+    → Tool words contents status text → status ≢ 2 → (status ≡ 0) ⊎ (status ≡ 1)
+
+-- the tool refuses words only where the parser's promise doesn't take them or their meaning is refused
+abbrev pub UsageHasCause : Type 0
+UsageHasCause = (words : List Bytes) (contents : Contents) (status : ℕ) (text : Bytes) → Tool words contents status text → status ≡ 2 → MayBeRefused words
+
+-- What the forms of the texts give is a set of clauses to ask. So the laws on what a set answers say of the page of a query what they say of
+-- its outcome, whatever the status.
+abbrev pub TranslationsAreSets : Type 0
+TranslationsAreSets = (parts : List Part) (forms : List Located) (translated : Translated)
+    → SpellParts parts forms → HaveTranslation forms translated → IsClauseSet translated.inputs
 
 -- the forms have a translation and a list of diagnostics, or more clauses than a snapshot may have
 abbrev pub AreTranslated : List Located → Type 0
@@ -54,15 +78,3 @@ ToolIsOne = (words : List Bytes) (contents : Contents) (status other : ℕ) (tex
 -- where there is no word, or the first names no command, the usage is the one outcome
 abbrev pub OthersGetUsage : Type 0
 OthersGetUsage = (words : List Bytes) (contents : Contents) (status : ℕ) (text : Bytes) → NamesNone words → Tool words contents status text → Is 2 usage status text
-
--- no variable and no row variable occurs in a plain fact
-abbrev pub FactsAreGround : Type 0
-FactsAreGround = (fact : Form) → IsPlainAtom false fact → is_ground fact ≡ true
-
--- no row variable occurs in a plain query
-abbrev pub QueriesHaveNoRow : Type 0
-QueriesHaveNoRow = (query : Form) → IsPlainAtom true query → has_no_row query ≡ true
-
--- a word that is no plain head heads no plain atom
-abbrev pub HeadsArePlain : Type 0
-HeadsArePlain = (variables : Bool) (word : Bytes) (atom : Form) → IsPlainAtom variables atom → is_plain_head word ≡ false → is_headed word atom ≡ false

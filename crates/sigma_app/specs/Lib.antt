@@ -4,10 +4,7 @@ pub mod Commands
 pub mod Evidence
 pub mod Files
 pub mod Laws
-pub mod Matching
-pub mod Page
-pub mod Plain
-pub mod Proof
+pub mod Limits
 pub mod Requests
 pub mod Run
 pub mod Snapshots

@@ -12,8 +12,10 @@ use Rattle.sigma_app.specs.declared.gather.Gathering.{Gathering}
 use Rattle.sigma_app.specs.declared.gather.Gathering.TheVariants as gathering
 use Rattle.sigma_app.specs.Requests.{Asked, Meaning, asks, checks, gives_clauses, exports, drills, Means, IsTaken, is_refused}
 use Rattle.sigma_app.specs.Files.{Contents, byte_limit, file_limit, AreWhole, IsReached, HaveForms}
+use Rattle.saturate.specs.declared.limits.Limits.{Limits}
+use Rattle.sigma_app.specs.Limits.{AreLimits, HasValues}
 use Rattle.sigma_app.specs.Evidence.{ShowsProof}
-use Rattle.sigma_app.specs.Tool.{Is, usage, not_built, many_text, has_option, reads_files, absent_text, long_text, fault_text, IsAbsent, IsTooLong, Following, Nothing, OnForms, OnChecked, OnClauses, OnFiles, Agrees, GivesTool, IsFault}
+use Rattle.sigma_app.specs.Tool.{Is, usage, not_built, many_text, reads_files, absent_text, long_text, fault_text, IsAbsent, IsTooLong, Following, Nothing, OnQuery, RefusesLimits, OnDrill, OnChecked, OnClauses, OnFiles, Agrees, GivesTool, IsFault}
 
 -- a status that tells of the outside or of memory: a fault of the files, a failed write, want of memory
 abbrev pub IsTrouble : ℕ → Type 0
@@ -27,13 +29,17 @@ IsCutShort status = (status ≡ 8) ⊎ (status ≡ 9)
 abbrev pub MayBeRefused : List Bytes → Type 0
 MayBeRefused words = (IsTaken words → ⊥) ⊎ ((meaning : Meaning) × Means words meaning × (is_refused meaning ≡ true))
 
--- the words have to be refused: they have no meaning that isn't
+-- the words have to be refused: what they mean, if anything, is refused, or an option or the size of a drill may not have its value
 abbrev pub MustBeRefused : List Bytes → Type 0
-MustBeRefused words = (meaning : Meaning) → Means words meaning → is_refused meaning ≡ true
+MustBeRefused words = (meaning : Meaning) → Means words meaning → (is_refused meaning ≡ true) ⊎ (HasValues meaning → ⊥)
+
+-- no file is read for this: it reads none, or an option or the size of a drill may not have its value
+abbrev pub ReadsNone : Meaning → Type 0
+ReadsNone meaning = (reads_files meaning ≡ false) ⊎ (HasValues meaning → ⊥)
 
 -- what the words mean, if anything, has no file read
 abbrev pub NeedsNoFile : List Bytes → Type 0
-NeedsNoFile words = (meaning : Meaning) → Means words meaning → reads_files meaning ≡ false
+NeedsNoFile words = (meaning : Meaning) → Means words meaning → ReadsNone meaning
 
 -- where the words ask a query and an answer is shown, so is a proof over these contents
 abbrev pub IsProved : List Bytes → Contents → ℕ → Bytes → Type 0
@@ -125,18 +131,23 @@ abbrev pub Gathers : List Bytes → Option Contents → ℕ → ℕ → Gatherin
 Gathers paths told before now (gathering.Found found) = (now ≡ before) × Over told (λ contents. HaveForms contents paths found.parts found.forms.items)
 Gathers paths told before now (gathering.Stopped reply) = OnNamedFiles Nothing paths told before now reply.status reply.text
 
--- nothing is fetched where an option is given
-abbrev pub OnAsk : Asked → Option Contents → ℕ → ℕ → ℕ → Bytes → Type 0
-OnAsk asked told before now status text =
-    MatchBool (has_option asked) ((now ≡ before) × Is 10 not_built status text) (OnNamedFiles (OnForms asked) asked.paths told before now status text)
+-- the limits of the options, and what follows on few files
+pub record OnLimited (asked : Asked) (told : Option Contents) (before now : ℕ) (status : ℕ) (text : Bytes) : Type 0 where
+  pub limits : Limits
+  pub are : AreLimits asked limits
+  pub on_files : OnNamedFiles (OnQuery asked.query limits) asked.paths told before now status text
 
--- a request whose words are good
+-- nothing is fetched where an option may not have its value
+abbrev pub OnAsk : Asked → Option Contents → ℕ → ℕ → ℕ → Bytes → Type 0
+OnAsk asked told before now status text = ((now ≡ before) × RefusesLimits asked status text) ⊎ OnLimited asked told before now status text
+
+-- a request that isn't refused
 abbrev pub OnGoodRequest : Meaning → Option Contents → ℕ → ℕ → ℕ → Bytes → Type 0
 OnGoodRequest (asks asked) told before now status text = OnAsk asked told before now status text
 OnGoodRequest (checks paths) told before now status text = OnNamedFiles OnChecked paths told before now status text
 OnGoodRequest (gives_clauses paths) told before now status text = OnNamedFiles OnClauses paths told before now status text
 OnGoodRequest (exports paths) told before now status text = (now ≡ before) × Is 10 not_built status text
-OnGoodRequest (drills size) told before now status text = (now ≡ before) × Is 10 not_built status text
+OnGoodRequest (drills size) told before now status text = (now ≡ before) × OnDrill size status text
 
 abbrev pub OnRequest : Meaning → Option Contents → ℕ → ℕ → ℕ → Bytes → Type 0
 OnRequest meaning told before now status text = MatchBool (is_refused meaning) ((now ≡ before) × Is 2 usage status text) (OnGoodRequest meaning told before now status text)

@@ -1,10 +1,9 @@
 -- What the tool answers: a status and a text, from the words and what the files hold.
-use Rattle.std.specs.Prelude.{◌≡◌, ℕ, nat_le, Bool, true, false, ◌||◌, List, [], ◌∷◌, ◌++◌, length, Option, Some, None, is_some, MatchBool, IfSome, codes, decimal, ◌⊎◌, ◌≤◌, slice_get, not, ◌&&◌}
-use Rattle.sigma_base.specs.Lists.{Each}
-use Rattle.kif_tree.specs.declared.form.Form.{Form}
+use Rattle.std.specs.Prelude.{◌≡◌, ℕ, nat_le, Bool, true, false, List, [], ◌∷◌, ◌++◌, length, Option, Some, None, is_some, MatchBool, IfSome, codes, decimal, ◌⊎◌, not, ◌&&◌, if◌then◌else◌, Err}
 use Rattle.kif_tree.specs.declared.place.Located.{Located}
 use Rattle.kif_tree.specs.declared.place.Place.{Place}
-use Rattle.kif_tree.specs.declared.subst.Pair.{Pair}
+use Rattle.kif_tree.specs.declared.clause.InputClause.{InputClause}
+use Rattle.kif_tree.specs.declared.place.LoadName.{LoadName}
 use Rattle.kif_tree.specs.Terms.{Bytes}
 use Rattle.kif_reader.specs.declared.bytes.Spot.{Spot}
 use Rattle.kif_reader.specs.declared.kinds.ReadError.{ReadError}
@@ -13,21 +12,27 @@ use Rattle.kif_reader.specs.Spelling.{Spells, FirstFault}
 use Rattle.sig_io.specs.Told.{body_of}
 use Rattle.diagnose.specs.declared.diagnostic.Diagnostic.{Diagnostic}
 use Rattle.translate.specs.declared.translated.Translated.{Translated}
+use Rattle.clause_form.specs.declared.query.QueryError.{QueryError}
+use Rattle.clause_form.specs.declared.query.QueryError.TheVariants as no_query
+use Rattle.clause_form.specs.Queries.{IsQueryAnswer}
+use Rattle.saturate.specs.declared.limits.Limits.{Limits}
+use Rattle.answers.specs.declared.outcome.Answer.{Answer}
+use Rattle.answers.specs.declared.outcome.Outcome.{Outcome}
+use Rattle.answers.specs.declared.proof.Proof.{Proof}
+use Rattle.answers.specs.Pages.{page}
+use Rattle.answers.specs.Questions.{IsAsked}
 use Rattle.sigma_app.specs.Requests as requests
 use Rattle.sigma_app.specs.Requests.{Asked, Meaning, asks, checks, gives_clauses, exports, drills, Means, IsTaken, is_refused}
-use Rattle.sigma_app.specs.Plain.{IsPlainAtom}
 use Rattle.sigma_app.specs.declared.files.Part.{Part}
 use Rattle.sigma_app.specs.declared.gather.Gathering.{Gathering}
 use Rattle.sigma_app.specs.declared.gather.Gathering.TheVariants as gathering
 use Rattle.sigma_app.specs.declared.forms.Reading.{Reading}
 use Rattle.sigma_app.specs.declared.forms.Reading.TheVariants.{Forms, Stopped}
 use Rattle.sigma_app.specs.Files.{Contents, byte_limit, file_limit, live_limit, AreWhole, IsReached, live_size, load_names, SpellParts}
-use Rattle.sigma_app.specs.Matching.{IsFirstMatch, HasNoMatchIn, binding}
-use Rattle.sigma_app.specs.Proof.{values, lines_of}
-use Rattle.sigma_app.specs.Page.{answer_text, end_text}
+use Rattle.sigma_app.specs.Limits.{AreLimits, HasLimits, HasSize, HasValues}
 use Rattle.sigma_app.specs.CheckPage.{check_page}
 use Rattle.sigma_app.specs.ClausesPage.{clauses_page}
-use Rattle.sigma_app.specs.Snapshots.{clause_limit, snapshot_text, HaveTranslation, AreFull, AreAllDiagnostics}
+use Rattle.sigma_app.specs.Snapshots.{snapshot_text, HaveTranslation, AreFull, AreAllDiagnostics}
 use Rattle.sigma_app.specs.declared.check.Translation.{Translation}
 use Rattle.sigma_app.specs.declared.check.Translation.TheVariants as translation
 
@@ -77,95 +82,81 @@ abbrev pub syntax_text : Bytes → ℕ → Spot → Bytes
 syntax_text path code spot =
     codes "syntax " ++ (decimal code ++ (32 ∷ (path ++ (58 ∷ (decimal spot.line ++ (58 ∷ (decimal spot.column ++ 10 ∷ [])))))))
 
--- ---- the words
-
--- an option is given
-abbrev pub has_option : Asked → Bool
-has_option asked = is_some asked.turns || (is_some asked.answers || (is_some asked.kept || is_some asked.mode))
-
 -- ---- one reply
 
 pub record Is (wanted : ℕ) (page : Bytes) (status : ℕ) (text : Bytes) : Type 0 where
   pub done : status ≡ wanted
   pub page_is : text ≡ page
 
--- ---- facts and a query
-
--- the page of the first fact that answers
-abbrev pub found_page : List Part → Form → Located → List Pair → Bytes
-found_page parts query fact s = answer_text (load_names parts) 1 (binding query s) (lines_of query fact (values query s)) ++ end_text (codes "enough") 1
-
--- the page where no fact answers
-abbrev pub none_page : Bytes
-none_page = end_text (codes "saturated") 1
-
-pub record ShowsAnswer (parts : List Part) (facts : List Located) (query : Form) (status : ℕ) (text : Bytes) : Type 0 where
-  pub number : ℕ
-  pub subst : List Pair
-  pub first : IsFirstMatch query facts number subst
-  pub done : status ≡ 0
-  pub page : text ≡ found_page parts query first.fact subst
-
-pub record ShowsNone (facts : List Located) (query : Form) (status : ℕ) (text : Bytes) : Type 0 where
-  pub none : HasNoMatchIn query facts
-  pub done : status ≡ 1
-  pub page : text ≡ none_page
-
--- what is shown of facts and a query
-abbrev pub Shows : List Part → List Located → Form → ℕ → Bytes → Type 0
-Shows parts facts query status text = ShowsAnswer parts facts query status text ⊎ ShowsNone facts query status text
-
--- the form stands alone
-pub record IsOnlyForm (forms : List Located) (form : Form) : Type 0 where
-  pub located : Located
-  pub alone : forms ≡ located ∷ []
-  pub is : located.form ≡ form
-
--- the text spells the query, as its one form; it stands in no file, so its number is 0
-pub record SpellsQuery (text : Bytes) (query : Form) : Type 0 where
-  pub located : Located
-  pub spelled : Spells 0 text (located ∷ [])
-  pub is : located.form ≡ query
-
-abbrev pub IsPlainFact : Located → Type 0
-IsPlainFact fact = IsPlainAtom false fact.form
-
--- the forms are plain facts, and the query is spelled and plain
-pub record IsPlain (asked : Asked) (facts : List Located) (query : Form) : Type 0 where
-  pub plain_facts : Each IsPlainFact facts
-  pub spelled : SpellsQuery asked.query query
-  pub plain_query : IsPlainAtom true query
-
-pub record Replies (asked : Asked) (parts : List Part) (facts : List Located) (status : ℕ) (text : Bytes) : Type 0 where
-  pub within : length facts ≤ clause_limit
-  pub query : Form
-  pub plain : IsPlain asked facts query
-  pub shown : Shows parts facts query status text
-
--- the facts are plain, each is one clause, and with this one there are too many
-pub record Overflow (parts : List Part) (facts : List Located) (status : ℕ) (text : Bytes) : Type 0 where
-  pub plain_facts : Each IsPlainFact facts
-  pub past : Located
-  pub stands : slice_get facts clause_limit ≡ Some past
-  pub is : Is 6 (snapshot_text (load_names parts) past.place) status text
-
--- a form is not plain, or all are, there are not too many, and the query is not plain or not spelled
-pub record Declines (asked : Asked) (facts : List Located) (status : ℕ) (text : Bytes) : Type 0 where
-  pub not_plain : (query : Form) → IsPlain asked facts query → ⊥
-  pub within : Each IsPlainFact facts → length facts ≤ clause_limit
-  pub is : Is 10 not_built status text
-
--- a query over the forms of all files
-abbrev pub OnForms : Asked → List Part → List Located → ℕ → Bytes → Type 0
-OnForms asked parts facts status text = Replies asked parts facts status text ⊎ (Overflow parts facts status text ⊎ Declines asked facts status text)
-
--- ---- a check, and clauses
+-- ---- the translation of the forms of all files
 
 -- with the form at a place there are more clauses than a snapshot may have
 pub record IsSnapshotFull (parts : List Part) (forms : List Located) (status : ℕ) (text : Bytes) : Type 0 where
   pub place : Place
   pub full : AreFull forms place
   pub is : Is 6 (snapshot_text (load_names parts) place) status text
+
+-- ---- a query
+
+-- `query 1 syntax CODE LINE:COLUMN`
+abbrev pub query_fault_text : ℕ → Spot → Bytes
+query_fault_text code spot =
+    codes "query 1 syntax " ++ (decimal code ++ (32 ∷ (decimal spot.line ++ (58 ∷ (decimal spot.column ++ 10 ∷ [])))))
+
+-- the text has a fault
+pub record RefusesFault (fault : ReadError) (status : ℕ) (text : Bytes) : Type 0 where
+  pub code : ℕ
+  pub spot : Spot
+  pub at : fault_in fault ≡ Some (code, spot)
+  pub is : Is 7 (query_fault_text code spot) status text
+
+-- why a query is refused: its code, and for a text with a fault what that is; want of memory is no cause
+abbrev pub RefusesQuery : QueryError → ℕ → Bytes → Type 0
+RefusesQuery (no_query.Syntax fault) status text = RefusesFault fault status text
+RefusesQuery no_query.NotOneForm status text = Is 7 (codes "query 2\n") status text
+RefusesQuery no_query.RowVariable status text = Is 7 (codes "query 3\n") status text
+RefusesQuery no_query.PredicateVariable status text = Is 7 (codes "query 4\n") status text
+RefusesQuery no_query.HigherOrder status text = Is 7 (codes "query 5\n") status text
+RefusesQuery no_query.TooManyClauses status text = Is 7 (codes "query 6\n") status text
+RefusesQuery no_query.NoMemory status text = ⊥
+
+abbrev pub shows_answer : List Answer → Option Proof → Bool
+shows_answer [] contradiction = is_some contradiction
+shows_answer (answer ∷ answers) contradiction = true
+
+-- 0 where an answer or a contradiction is shown
+abbrev pub shown_status : Outcome → ℕ
+shown_status outcome = if shows_answer outcome.answers outcome.contradiction then 0 else 1
+
+abbrev pub ShowsOutcome : List LoadName → Outcome → ℕ → Bytes → Type 0
+ShowsOutcome names outcome status text = Is (shown_status outcome) (page names outcome) status text
+
+-- the text is no query
+pub record RefusesText (query : Bytes) (status : ℕ) (text : Bytes) : Type 0 where
+  pub error : QueryError
+  pub refused : IsQueryAnswer query (Err error)
+  pub is : RefusesQuery error status text
+
+-- what the clauses answer to the query within the limits
+pub record AnswersQuery (query : Bytes) (limits : Limits) (names : List LoadName) (set : List InputClause) (status : ℕ) (text : Bytes) : Type 0 where
+  pub outcome : Outcome
+  pub asked : IsAsked set query limits outcome
+  pub shows : ShowsOutcome names outcome status text
+
+-- a query over clauses
+abbrev pub OnSet : Bytes → Limits → List LoadName → List InputClause → ℕ → Bytes → Type 0
+OnSet query limits names set status text = RefusesText query status text ⊎ AnswersQuery query limits names set status text
+
+-- the query over the clauses of the forms of all files
+pub record AsksClauses (query : Bytes) (limits : Limits) (parts : List Part) (forms : List Located) (status : ℕ) (text : Bytes) : Type 0 where
+  pub translated : Translated
+  pub have : HaveTranslation forms translated
+  pub answers : OnSet query limits (load_names parts) translated.inputs status text
+
+abbrev pub OnQuery : Bytes → Limits → List Part → List Located → ℕ → Bytes → Type 0
+OnQuery query limits parts forms status text = AsksClauses query limits parts forms status text ⊎ IsSnapshotFull parts forms status text
+
+-- ---- a check, and clauses
 
 -- the page of all diagnostics of the forms of all files
 pub record ShowsDiagnostics (parts : List Part) (forms : List Located) (status : ℕ) (text : Bytes) : Type 0 where
@@ -281,13 +272,36 @@ OnPaths Next paths contents status text =
 
 -- ---- the whole tool
 
--- a query over files, where no option is given
-abbrev pub OnAsked : Asked → Contents → ℕ → Bytes → Type 0
-OnAsked asked contents status text = MatchBool (has_option asked) (Is 10 not_built status text) (OnPaths (OnForms asked) asked.paths contents status text)
+-- a query over files, within the limits of its options
+pub record OnLimits (asked : Asked) (contents : Contents) (status : ℕ) (text : Bytes) : Type 0 where
+  pub limits : Limits
+  pub are : AreLimits asked limits
+  pub on_paths : OnPaths (OnQuery asked.query limits) asked.paths contents status text
 
--- what the words mean is built: a query without options, a check, or clauses
+-- an option may not have its value, which the parser's promise doesn't take
+pub record RefusesLimits (asked : Asked) (status : ℕ) (text : Bytes) : Type 0 where
+  pub none : HasLimits asked → ⊥
+  pub is : Is 2 usage status text
+
+abbrev pub OnAsked : Asked → Contents → ℕ → Bytes → Type 0
+OnAsked asked contents status text = RefusesLimits asked status text ⊎ OnLimits asked contents status text
+
+-- the size of a drill may not be this, which the parser's promise doesn't take
+pub record RefusesSize (size : Bytes) (status : ℕ) (text : Bytes) : Type 0 where
+  pub none : HasSize size → ⊥
+  pub is : Is 2 usage status text
+
+-- a drill of a size that may be is not built
+pub record LacksDrill (size : Bytes) (status : ℕ) (text : Bytes) : Type 0 where
+  pub may_be : HasSize size
+  pub is : Is 10 not_built status text
+
+abbrev pub OnDrill : Bytes → ℕ → Bytes → Type 0
+OnDrill size status text = RefusesSize size status text ⊎ LacksDrill size status text
+
+-- what the words mean is built: a query, a check, or clauses
 abbrev pub is_built : Meaning → Bool
-is_built (asks asked) = not (has_option asked)
+is_built (asks asked) = true
 is_built (checks paths) = true
 is_built (gives_clauses paths) = true
 is_built (exports paths) = false
@@ -303,7 +317,7 @@ OnBuilt (asks asked) contents status text = OnAsked asked contents status text
 OnBuilt (checks paths) contents status text = OnPaths OnChecked paths contents status text
 OnBuilt (gives_clauses paths) contents status text = OnPaths OnClauses paths contents status text
 OnBuilt (exports paths) contents status text = Is 10 not_built status text
-OnBuilt (drills size) contents status text = Is 10 not_built status text
+OnBuilt (drills size) contents status text = OnDrill size status text
 
 -- what words with this meaning get
 abbrev pub OnMeaning : Meaning → Contents → ℕ → Bytes → Type 0
@@ -324,11 +338,12 @@ pub record AreNotTaken (words : List Bytes) (status : ℕ) (text : Bytes) : Type
 abbrev pub Tool : List Bytes → Contents → ℕ → Bytes → Type 0
 Tool words contents status text = HasMeaning words contents status text ⊎ AreNotTaken words status text
 
--- the text where files are read and one could not be fetched, before which all are whole
+-- the text where files are read, for words whose values may be, and one could not be fetched, before which all are whole
 pub record IsFault (words : List Bytes) (contents : Contents) (text : Bytes) : Type 0 where
   pub meaning : Meaning
   pub means : Means words meaning
   pub reads : reads_files meaning ≡ true
+  pub values : HasValues meaning
   pub path : Bytes
   pub reached : IsReached contents (requests.paths meaning) path
   pub page : text ≡ fault_text path

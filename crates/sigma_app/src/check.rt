@@ -20,12 +20,13 @@ use translate::{TranslateError, Translated, translate};
 
 /// The translation of forms, or the reply that they have too many clauses.
 #[derive(Debug, Drop)]
-enum Translation {
+pub enum Translation {
     Made(Translated),
     Stopped(Reply),
 }
 
-fn translation_of(
+/// The translation, where it stays within the limit of a snapshot.
+pub fn translation_of(
     alloc: Global,
     parts: &[Part],
     forms: &[Located],

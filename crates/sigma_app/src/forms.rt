@@ -1,16 +1,12 @@
-//! The forms of the parts, and the form of the query.
-ghost use Rattle.std.specs.Prelude.{◌≡◌, ◌≤◌, ◌++◌, ◌∷◌, [], true, length, IfOk, OnOk, MatchOption};
-ghost use Rattle.kif_tree.specs.declared.place.Located.{Located};
-ghost use Rattle.kif_tree.specs.declared.form.Form.{Form};
+//! The forms of the parts.
+ghost use Rattle.std.specs.Prelude.{◌≤◌, length, IfOk};
 ghost use Rattle.sigma_app.specs.Files as files;
-ghost use Rattle.sigma_app.specs.Plain.{IsPlainAtom};
 ghost use Rattle.sigma_app.specs.Tool as spec;
 
 use crate::files::Part;
-use crate::plain::is_plain_atom;
 use crate::reply::{Reply, fault_at, syntax_reply};
 use kif_reader::read_forms;
-use kif_tree::{Form, Located};
+use kif_tree::Located;
 use sigma_base::NoMemory;
 use std::alloc::Global;
 
@@ -54,38 +50,4 @@ pub fn read_parts(alloc: Global, parts: &[Part]) -> Result<Reading, NoMemory>
         }
     }
     Ok(Reading::Forms(forms))
-}
-
-/// The form, where it is the only one and a plain atom with variables.
-fn only_plain(mut forms: Vec<Located>) -> Option<Form>
-    ensures { MatchOption result
-        ((located : Located) → forms.items ≡ located ∷ [] → IsPlainAtom true located.form → ⊥)
-        (λ query. spec.IsOnlyForm forms.items query × IsPlainAtom true query) }
-{
-    if forms.len() != 1 {
-        return None;
-    }
-    let located = forms.pop()?;
-    if is_plain_atom(&located.form, true) {
-        Some(located.form)
-    } else {
-        None
-    }
-}
-
-/// The query, where the text spells one form and that is a plain atom with variables.
-pub fn read_query(alloc: Global, text: &[u8]) -> Result<Option<Form>, NoMemory>
-    requires { length text.now ≤ 8388608 }
-    ensures { IfOk result (λ found. MatchOption found
-        ((query : Form) → spec.SpellsQuery text.now query → IsPlainAtom true query → ⊥)
-        (λ query. spec.SpellsQuery text.now query × IsPlainAtom true query)) }
-{
-    let error = match read_forms(alloc, text, 0) {
-        Ok(forms) => return Ok(only_plain(forms)),
-        Err(error) => error,
-    };
-    match fault_at(error) {
-        Some(_) => Ok(None),
-        None => Err(NoMemory),
-    }
 }

@@ -2,21 +2,22 @@
 ghost use Rattle.sigma_app.specs.Laws as laws;
 ghost use Rattle.sigma_app.specs.Requests as requests;
 
-/// The tool gives a status and a text for all words and files, and the same ones for the same. For a check and for clauses it gives them
-/// where the forms have a translation and a list of diagnostics, or too many clauses. For words that the promise of the parser of command lines doesn't take, the other outcome is the usage.
+/// The tool gives one status and one text for the same words and files: for words that the promise of the parser of command lines doesn't take,
+/// the other outcome is the usage. It has an outcome for all words and files but for a query; for a check and for clauses where the forms have a
+/// translation and a list of diagnostics, or too many clauses. A good query over good files has status 0 or 1, where its words aren't refused,
+/// and the usage has a cause in the words.
 pub fn one_outcome_law()
     ensures some { laws.ToolAnswers }
     ensures translations { laws.TranslationsAnswer }
     ensures one { laws.ToolIsOne }
+    ensures good { laws.GoodQueriesAreAnswered }
+    ensures usage { laws.UsageHasCause }
     ensures others { laws.OthersGetUsage }
 {}
 
-/// What is plain has nothing that the layers above treat in another way: facts are ground, no row variable occurs, and no
-/// logical word, no `equal`, no head of a shown form and no function's name stands at a head.
-pub fn plain_atom_law()
-    ensures facts { laws.FactsAreGround }
-    ensures queries { laws.QueriesHaveNoRow }
-    ensures heads { laws.HeadsArePlain }
+/// What forms that are spelled give is a set of clauses, of which the laws of `answers` say what its outcomes are.
+pub fn clause_set_law()
+    ensures { laws.TranslationsAreSets }
 {}
 
 /// The words of a command line mean one thing at most: nothing where the first names no command, and something where the parser

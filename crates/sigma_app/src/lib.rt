@@ -9,21 +9,21 @@ mod files;
 mod forms;
 mod gather;
 mod laws;
-mod matching;
-mod page;
+mod limits;
 mod places;
-mod plain;
-mod proof;
+mod query;
 mod refusals;
 mod reply;
 mod requests;
 mod tool;
 
-pub use laws::{one_outcome_law, plain_atom_law, words_law};
+pub use laws::{clause_set_law, one_outcome_law, words_law};
 pub use tool::run_tool;
 
 #[cfg(test)]
 mod tests;
+#[cfg(test)]
+mod tests_ask;
 #[cfg(test)]
 mod tests_check;
 #[cfg(test)]

@@ -237,7 +237,6 @@ fn names_the_first_fault_of_the_texts(rt: HostRuntime) -> Result<(), Fail> {
 
 #[test]
 fn says_what_is_not_built(rt: HostRuntime) -> Result<(), Fail> {
-    const FACT: &[File] = &[("a.kif", "(p a)\n")];
     let not_built = "not built\n";
     check_all(
         &rt,
@@ -245,49 +244,6 @@ fn says_what_is_not_built(rt: HostRuntime) -> Result<(), Fail> {
         &[
             quiet(&["drill", "2000"], &[], 10, not_built),
             quiet(&["export", "a.kif", "b.kif"], &[], 10, not_built),
-            quiet(
-                &["ask", "--turns", "5", "(p a)", "a.kif"],
-                FACT,
-                10,
-                not_built,
-            ),
-            quiet(
-                &["ask", "(p a)", "--answers=1", "a.kif"],
-                FACT,
-                10,
-                not_built,
-            ),
-            quiet(
-                &["ask", "--mode", "full", "(p a)", "none.kif"],
-                FACT,
-                10,
-                not_built,
-            ),
-            quiet(
-                &["ask", "(p a)", "a.kif"],
-                &[("a.kif", "(=> (p a) (q a))\n")],
-                10,
-                not_built,
-            ),
-            quiet(
-                &["ask", "(p a)", "a.kif"],
-                &[("a.kif", "(p a)(p \"a\")")],
-                10,
-                not_built,
-            ),
-            quiet(
-                &["ask", "(p a)", "a.kif"],
-                &[("a.kif", "(p ?X)")],
-                10,
-                not_built,
-            ),
-            quiet(&["ask", "(p ?)", "a.kif"], FACT, 10, not_built),
-            quiet(&["ask", "(p @R)", "a.kif"], FACT, 10, not_built),
-            quiet(&["ask", "(p a)(p b)", "a.kif"], FACT, 10, not_built),
-            quiet(&["ask", "(equal ?X a)", "a.kif"], FACT, 10, not_built),
-            quiet(&["ask", "(documentation ?X)", "a.kif"], FACT, 10, not_built),
-            quiet(&["ask", "(MotherFn ?X)", "a.kif"], FACT, 10, not_built),
-            quiet(&["ask", "", "a.kif"], FACT, 10, not_built),
         ],
     )?;
     Ok(())
@@ -367,14 +323,6 @@ fn fetches_nothing_where_the_words_need_no_file(rt: HostRuntime) -> Result<(), F
         rt.alloc(),
         &[
             failing(
-                &["ask", "--kept", "9", "(p a)", "a.kif"],
-                TWO,
-                first,
-                &[],
-                10,
-                "not built\n",
-            ),
-            failing(
                 &["export", "a.kif", "b.kif"],
                 TWO,
                 first,
@@ -383,6 +331,15 @@ fn fetches_nothing_where_the_words_need_no_file(rt: HostRuntime) -> Result<(), F
                 "not built\n",
             ),
             failing(&["drill", "1"], TWO, first, &[], 10, "not built\n"),
+            failing(&["drill", "0"], TWO, first, &[], 2, USAGE),
+            failing(
+                &["ask", "--turns", "0", "(p a)", "a.kif"],
+                TWO,
+                first,
+                &[],
+                2,
+                USAGE,
+            ),
             failing(
                 &["ask", "(p a)", "a.kif", "a.kif"],
                 TWO,
@@ -555,7 +512,7 @@ fn keeps_the_limits(rt: HostRuntime) -> Result<(), Fail> {
 
 #[test]
 fn keeps_the_limit_of_a_query(rt: HostRuntime) -> Result<(), Fail> {
-    for (length, status, printed) in [(FULL, 10, "not built\n"), (FULL + 1, 2, USAGE)] {
+    for (length, status, printed) in [(FULL, 7, "query 2\n"), (FULL + 1, 2, USAGE)] {
         let query = spaces(&rt, rt.alloc(), length)?;
         let (ended, text) = over_spaces(&rt, rt.alloc(), &["ask", expect_text(&rt, &query)], &[1])?;
         assert_eq!(rt; ended, status);

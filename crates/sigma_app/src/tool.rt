@@ -1,31 +1,20 @@
 //! The tool: from the words of a command line to a status and a printed text.
-ghost use Rattle.std.specs.Prelude.{◌≡◌, ◌≢◌, ◌⊎◌, ◌≤◌, true, false, length, IfOk, OnErr};
-ghost use Rattle.sigma_base.specs.Lists.{Each};
+ghost use Rattle.std.specs.Prelude.{◌≡◌, ◌≢◌, ◌⊎◌, false, IfOk, OnErr};
 ghost use Rattle.sig_io.specs.Causes.{Rose};
-ghost use Rattle.sigma_app.specs.Matching.{IsFlat};
-ghost use Rattle.sigma_app.specs.Plain.{IsPlainAtom};
 ghost use Rattle.sigma_app.specs.Requests as requests;
 ghost use Rattle.sigma_app.specs.Tool as spec;
 ghost use Rattle.sigma_app.specs.Run as run;
 
 use crate::check::{clauses_reply, diagnostics_reply};
-use crate::files::{Part, load_names};
-use crate::forms::read_query;
 use crate::gather::{Gathering, gather};
-use crate::matching::{binding_of, first_match};
-use crate::page::{append_answer, append_end};
-use crate::plain::are_plain_facts;
-use crate::proof::proof_lines;
+use crate::limits::{is_size, limits_of};
+use crate::query::query_reply;
 use crate::refusals::is_refused;
-use crate::reply::{Reply, fixed_reply, snapshot_reply};
+use crate::reply::{Reply, fixed_reply};
 use crate::requests::{Ask, Request, WordsError, request_of};
-use kif_tree::{Form, Located, Subst, Text};
 use sig_io::{Files, Sink, Words, WriteError, write_all};
 use sigma_base::NoMemory;
 use std::alloc::Global;
-
-/// How many clauses a snapshot may have. Each plain fact is one.
-const CLAUSE_LIMIT: usize = 400_000;
 
 const USAGE: &[u8] =
     b"usage: sigma ask [--turns N] [--answers N] [--kept N] [--mode support|full] QUERY FILE...
@@ -48,100 +37,22 @@ fn usage(alloc: Global) -> Result<Reply, NoMemory>
     fixed_reply(alloc, 2, USAGE)
 }
 
-fn found_page(
-    alloc: Global,
-    parts: &[Part],
-    query: &Form,
-    fact: &Located,
-    subst: &Subst,
-) -> Result<Text, NoMemory>
-    ensures { IfOk result (λ page. page ≡ spec.found_page parts.now query.now fact.now subst.now.pairs) }
-{
-    let names = load_names(alloc, parts)?;
-    let values = binding_of(alloc, query, subst)?;
-    let lines = proof_lines(alloc, query, fact, values.items())?;
-    let mut page = Text::new(alloc);
-    append_answer(
-        alloc,
-        &mut page,
-        names.items(),
-        1,
-        values.items(),
-        lines.items(),
-    )?;
-    append_end(&mut page, b"enough", 1)?;
-    Ok(page)
-}
-
-fn none_page(alloc: Global) -> Result<Text, NoMemory>
-    ensures { IfOk result (λ page. page ≡ spec.none_page) }
-{
-    let mut page = Text::new(alloc);
-    append_end(&mut page, b"saturated", 1)?;
-    Ok(page)
-}
-
-/// What is shown of facts and a query.
-fn shown(alloc: Global, parts: &[Part], facts: &[Located], query: &Form) -> Result<Reply, NoMemory>
-    requires { IsFlat query.now }
-    ensures { IfOk result (λ reply. spec.Shows parts.now facts.now query.now reply.status reply.text) }
-{
-    match first_match(alloc, query, facts)? {
-        Some(found) => Ok(Reply {
-            status: 0,
-            text: found_page(alloc, parts, query, &facts[found.number], &found.subst)?,
-        }),
-        None => Ok(Reply {
-            status: 1,
-            text: none_page(alloc)?,
-        }),
-    }
-}
-
-/// The reply to a query over the forms of all files.
-fn forms_reply(
-    alloc: Global,
-    ask: &Ask<'_>,
-    parts: &[Part],
-    facts: &[Located],
-) -> Result<Reply, NoMemory>
-    requires { length ask.now.query.now ≤ 8388608 }
-    ensures { IfOk result (λ reply. spec.OnForms (requests.asked_value ask.now) parts.now facts.now reply.status reply.text) }
-{
-    if !are_plain_facts(facts) {
-        return not_built(alloc);
-    }
-    if let Some(past) = facts.get(CLAUSE_LIMIT) {
-        let names = load_names(alloc, parts)?;
-        return snapshot_reply(alloc, names.items(), &past.place);
-    }
-    match read_query(alloc, ask.query.as_bytes())? {
-        Some(query) => shown(alloc, parts, facts, &query),
-        None => not_built(alloc),
-    }
-}
-
-fn has_option(ask: &Ask<'_>) -> bool
-    ensures { result ≡ spec.has_option (requests.asked_value ask.now) }
-{
-    ask.turns.is_some() || ask.answers.is_some() || ask.kept.is_some() || ask.mode.is_some()
-}
-
-/// The reply to a query whose words are good.
+/// The reply to a query that isn't refused.
 fn ask_reply<F: Files>(alloc: Global, ask: &Ask<'_>, files: &mut F) -> Result<Reply, NoMemory>
     requires good { requests.is_refused (requests.asks (requests.asked_value ask.now)) ≡ false }
     ensures told { F.told files.new ≡ F.told files.old }
     ensures reply { IfOk result (λ reply. run.OnAsk (requests.asked_value ask.now) (F.told files.old) (F.faults files.old) (F.faults files.new) reply.status reply.text) }
     ensures cause { OnErr result (run.MayHaveRisen (F.faults files.old) (F.faults files.new)) }
-    ensures unfetched { spec.reads_files (requests.asks (requests.asked_value ask.now)) ≡ false → F.faults files.new ≡ F.faults files.old }
+    ensures unfetched { run.ReadsNone (requests.asks (requests.asked_value ask.now)) → F.faults files.new ≡ F.faults files.old }
 {
-    if has_option(ask) {
-        return not_built(alloc);
-    }
+    let Some(limits) = limits_of(ask) else {
+        return usage(alloc);
+    };
     match gather(alloc, ask.files.as_slice(), files)? {
-        Gathering::Found(found) => forms_reply(
+        Gathering::Found(found) => query_reply(
             alloc,
-            ask,
+            ask.query.as_bytes(),
+            limits,
             found.parts.items(),
             found.forms.as_slice(),
         ),
@@ -149,13 +60,13 @@ fn ask_reply<F: Files>(alloc: Global, ask: &Ask<'_>, files: &mut F) -> Result<Re
     }
 }
 
-/// The reply to a check whose words are good.
+/// The reply to a check that isn't refused.
 fn check_reply<F: Files>(alloc: Global, paths: &[&str], files: &mut F) -> Result<Reply, NoMemory>
     requires good { requests.is_refused (requests.checks (requests.texts paths.now)) ≡ false }
     ensures told { F.told files.new ≡ F.told files.old }
     ensures reply { IfOk result (λ reply. run.OnGoodRequest (requests.checks (requests.texts paths.now)) (F.told files.old) (F.faults files.old) (F.faults files.new) reply.status reply.text) }
     ensures cause { OnErr result (run.MayHaveRisen (F.faults files.old) (F.faults files.new)) }
-    ensures unfetched { spec.reads_files (requests.checks (requests.texts paths.now)) ≡ false → F.faults files.new ≡ F.faults files.old }
+    ensures unfetched { run.ReadsNone (requests.checks (requests.texts paths.now)) → F.faults files.new ≡ F.faults files.old }
 {
     match gather(alloc, paths, files)? {
         Gathering::Found(found) => diagnostics_reply(
@@ -167,13 +78,13 @@ fn check_reply<F: Files>(alloc: Global, paths: &[&str], files: &mut F) -> Result
     }
 }
 
-/// The reply to a command for clauses whose words are good.
+/// The reply to a command for clauses that isn't refused.
 fn give_clauses<F: Files>(alloc: Global, paths: &[&str], files: &mut F) -> Result<Reply, NoMemory>
     requires good { requests.is_refused (requests.gives_clauses (requests.texts paths.now)) ≡ false }
     ensures told { F.told files.new ≡ F.told files.old }
     ensures reply { IfOk result (λ reply. run.OnGoodRequest (requests.gives_clauses (requests.texts paths.now)) (F.told files.old) (F.faults files.old) (F.faults files.new) reply.status reply.text) }
     ensures cause { OnErr result (run.MayHaveRisen (F.faults files.old) (F.faults files.new)) }
-    ensures unfetched { spec.reads_files (requests.gives_clauses (requests.texts paths.now)) ≡ false → F.faults files.new ≡ F.faults files.old }
+    ensures unfetched { run.ReadsNone (requests.gives_clauses (requests.texts paths.now)) → F.faults files.new ≡ F.faults files.old }
 {
     match gather(alloc, paths, files)? {
         Gathering::Found(found) => clauses_reply(
@@ -182,6 +93,17 @@ fn give_clauses<F: Files>(alloc: Global, paths: &[&str], files: &mut F) -> Resul
             found.forms.as_slice(),
         ),
         Gathering::Stopped(reply) => Ok(reply),
+    }
+}
+
+/// The reply to a drill, by its size.
+fn drill_reply(alloc: Global, size: &str) -> Result<Reply, NoMemory>
+    ensures { IfOk result (λ reply. spec.OnDrill size.now reply.status reply.text) }
+{
+    if is_size(size) {
+        not_built(alloc)
+    } else {
+        usage(alloc)
     }
 }
 
@@ -194,7 +116,7 @@ fn request_reply<F: Files>(
     ensures told { F.told files.new ≡ F.told files.old }
     ensures reply { IfOk result (λ reply. run.OnRequest (requests.meaning_of request.now) (F.told files.old) (F.faults files.old) (F.faults files.new) reply.status reply.text) }
     ensures cause { OnErr result (run.MayHaveRisen (F.faults files.old) (F.faults files.new)) }
-    ensures unfetched { spec.reads_files (requests.meaning_of request.now) ≡ false → F.faults files.new ≡ F.faults files.old }
+    ensures unfetched { run.ReadsNone (requests.meaning_of request.now) → F.faults files.new ≡ F.faults files.old }
 {
     if is_refused(alloc, request)? {
         return usage(alloc);
@@ -203,7 +125,8 @@ fn request_reply<F: Files>(
         Request::Ask(ask) => ask_reply(alloc, ask, files),
         Request::Check(paths) => check_reply(alloc, paths.as_slice(), files),
         Request::Clauses(paths) => give_clauses(alloc, paths.as_slice(), files),
-        _ => not_built(alloc),
+        Request::Export(_) => not_built(alloc),
+        Request::Drill(size) => drill_reply(alloc, size),
     }
 }
 
@@ -230,19 +153,20 @@ fn print_reply<S: Sink>(out: &mut S, reply: &Reply) -> u8
     }
 }
 
-/// Does what the words ask, with files from `files`, and prints to `out`. The answer is the status: 0 an answer or the page of a check or of
-/// clauses is shown, 1 no answer is, 2 the words are refused, 3 a file is absent, 4 one could not be fetched, 5 a text has a fault, 6 a limit is
-/// passed, 8 a write failed, 9 want of memory, 10 the command, an option, the query or a form under a query is not built yet.
+/// Does what the words ask, with files from `files`, and prints to `out`. The answer is the status: 0 an answer, a contradiction, or the page of a check or of
+/// clauses is shown, 1 neither an answer nor a contradiction is shown, 2 the words are refused, 3 a file is absent, 4 one could not be fetched, 5 a text has a fault, 6 a limit is
+/// passed, 7 the query is refused, 8 a write failed, 9 want of memory, 10 the command is not built yet.
 pub fn run_tool<F: Files, S: Sink>(alloc: Global, words: &Words, files: &mut F, out: &mut S) -> u8
     // Status and text are the tool's for some contents; where the files tell what they hold, for just these. An answer that is shown has
     // a proof: a derivation that ends in just what is shown, whose cited lines hold its premises and whose evidence refutes.
     ensures answered { run.IsTrouble result ⊎ run.Appends words.now (F.told files.old) (S.told out.old) (S.told out.new) result }
 
-    // When the words are refused.
+    // When the words are refused. They have to be where they mean nothing, what they mean is refused, or an option or the size of a drill
+    // may not have its value.
     ensures usage { result ≡ 2 → run.MayBeRefused words.now }
     ensures refused { run.MustBeRefused words.now → (result ≡ 2) ⊎ run.IsCutShort result }
 
-    // Where the words need no file, none is fetched, as any fetch may fail.
+    // Where the words need no file, as those don't that have to be refused, none is fetched, as any fetch may fail.
     ensures unfetched { run.NeedsNoFile words.now → F.faults files.new ≡ F.faults files.old }
 
     // What the counts of faults tell.

@@ -16,6 +16,6 @@ returns-clause-consistent c =
       aside = c.new-2.result;
       found = c.new-3.result;
     } in
-    let state : State = record { reached = reached; weights = c.in_ok-weights.weights; kept = 0 } in
+    let state : State = record { reached = reached; weights = c.in_ok-weights.weights; fingerprints = c.in_ok-fingerprints.fingerprints; listed = c.in_ok-listed.listed; kept = 0 } in
     let is : reached ≡ beginning c.args.inputs c.args.mode = search rules in
-    begins c.args.inputs c.args.mode state is c.in_ok-weights.ensures refl c.requires.plain
+    begins c.args.inputs c.args.mode state is c.in_ok-weights.ensures c.in_ok-fingerprints.ensures c.in_ok-listed.ensures refl c.requires.plain

@@ -1,27 +1,25 @@
-use Rattle.std.proofs.Common.{◌≡◌, true, false, refl, sym, ◌∙◌, subst}
-use Rattle.kif_tree.specs.Clauses.{Literals}
-use Rattle.calculus.proofs.PlaceLaws.{none_some, some_same}
-use Rattle.unify.specs.Subsumption.{Subsumes}
+use Rattle.std.proofs.Common.{◌≡◌, true, false, refl, sym, ◌∙◌}
 use Rattle.saturate.specs.Runs.{clauses}
-use Rattle.saturate.proofs.SubsumedLaws.{subsumed_at, not_yet}
+use Rattle.saturate.proofs.SubsumedLaws.{subsumed_at, not_yet, unless_one}
 use Rattle.saturate.proofs.covered.is_subsumed.Goals as goal
-use Rattle.saturate.proofs.covered.is_subsumed.Goals.{in-Some+in_ok-subsumes+else-branch, in_default}
+use Rattle.saturate.proofs.covered.is_subsumed.Goals.{else-may_subsume-via-then-may_subsume+in_ok-subsumes_at+else-branch, else-may_subsume-via-else-may_subsume}
 
 pub returns-then-branch : goal.returns-then-branch
 returns-then-branch c = (
-  λ _. subsumed_at (clauses c.args.reached.now) c.args.clause.now c.args.numbers.now c.loop-number.number-index c.in-Some.general.now c.loop-number-test.true
-      (sym c.in-Some.ensures) (c.in_ok-subsumes.ensures.0 c.if-branch.true),
+  λ _. subsumed_at (clauses c.args.state.now.reached) c.args.clause.now c.args.numbers.now c.loop-number.number-index c.loop-number-test.true
+      (c.in_ok-subsumes_at.ensures.0 c.if-branch.true),
   λ _. refl,
 )
 
 pub loop-number-preserved : goal.loop-number-preserved
 loop-number-preserved c =
-    let all = clauses c.args.reached.now in
+    let all = clauses c.args.state.now.reached in
     not_yet all c.args.clause.now c.args.numbers.now c.loop-number.number-index c.loop-number-test.true c.loop-number.invariant
-    (elim c.match-clause.branch [
-      | in-Some+in_ok-subsumes+else-branch w ↦ λ general at subsumes.
-          let same : w.in-Some.general.now ≡ general = some_same w.in-Some.general.now general (w.in-Some.ensures ∙ at) in
-          let no_way : true ≡ false = sym (w.in_ok-subsumes.ensures.1 (subst (λ (g : Literals). Subsumes g c.args.clause.now) (sym same) subsumes)) ∙ w.if-branch.false in
+    (elim c.else-may_subsume.branch [
+      | else-may_subsume-via-then-may_subsume+in_ok-subsumes_at+else-branch w ↦ λ s.
+          let no_way : true ≡ false = sym (w.in_ok-subsumes_at.ensures.1 s) ∙ w.if-branch.false in
           absurd (cc)
-      | in_default w ↦ λ general at subsumes. none_some general (w.in_default.ensures ∙ at)
+      | else-may_subsume-via-else-may_subsume w ↦
+          unless_one all c.args.clause.now _
+          (λ general at subsumes. c.may_subsume.ensures w.if-may_subsume.false general c.args.clause.now at c.requires.prints subsumes)
     ])

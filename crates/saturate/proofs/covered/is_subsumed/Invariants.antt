@@ -4,4 +4,4 @@ use Rattle.saturate.specs.Runs.{clauses}
 use Rattle.saturate.proofs.covered.is_subsumed.Given as goal
 
 abbrev pub invariant-loop-number : goal.invariant-loop-number
-invariant-loop-number l = spec.IsSubsumed (clauses l.reached) (take l.number-index l.numbers) l.clause → ⊥
+invariant-loop-number l = spec.IsSubsumed (clauses l.state.reached) (take l.number-index l.numbers) l.clause → ⊥

@@ -1,7 +1,7 @@
 use Rattle.std.proofs.Common.{◌≤◌, length, ap, arith}
 use Rattle.sigma_app.specs.declared.files.Part.{Part}
 use Rattle.sigma_app.specs.Files.{byte_limit}
-use Rattle.sigma_app.proofs.PlainLaws.{each_at}
+use Rattle.sigma_app.proofs.ItemLaws.{each_at}
 use Rattle.sigma_app.proofs.FileLaws.{live_step}
 use Rattle.sigma_app.proofs.files.live_size.Goals as goal
 
