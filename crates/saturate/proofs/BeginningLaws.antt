@@ -18,8 +18,8 @@ use Rattle.saturate.specs.declared.limits.Mode.{Mode}
 use Rattle.saturate.specs.declared.limits.Mode.TheVariants.{Support, Full}
 use Rattle.saturate.specs.declared.reached.Reached.{Reached}
 use Rattle.saturate.specs.declared.reached.State.{State}
-use Rattle.saturate.specs.Fingerprints.{fingerprints, first_of}
-use Rattle.saturate.specs.Indexes.{Listing, AreListed, IsIndexed, IsListed, key_of, listed}
+use Rattle.saturate.specs.Fingerprints.{fingerprints}
+use Rattle.saturate.specs.Indexes.{Listing, AreListed, IsIndexed, IsListedUnderOne, listed}
 use Rattle.saturate.specs.Inputs.{is_query_number}
 use Rattle.saturate.specs.Runs.{clauses, numbers_from, numbers_of, first_processed, first_waiting, beginning, weight, kept_count}
 use Rattle.saturate.specs.States.{IsConsistent}
@@ -78,13 +78,12 @@ clauses_more f inputs number input at =
     ∙ map-append f (clauses_of (take number inputs)) (input.clause ∷ [])
 
 -- one input more is listed
-pub input_next : (inputs : List InputClause) (old new : Listing) (number place : ℕ) → AreListed inputs old number → number < length inputs
-    → place ≡ key_of (first_of (clause_at (clauses_of inputs) number)) → IsListed old new place number → AreListed inputs new (number + 1)
-input_next inputs old new number place before below is lists =
+pub input_next : (inputs : List InputClause) (old new : Listing) (number : ℕ) → AreListed inputs old number → number < length inputs
+    → IsListedUnderOne old new (clause_at (clauses_of inputs) number) number → AreListed inputs new (number + 1)
+input_next inputs old new number before below under =
     let x = some_item inputs number below in
     let at = nth-some inputs number x.0 below x.1 in
-    input_listed inputs old new number x.0 before at
-    (subst (λ (key : ℕ). IsListed old new key number) (is ∙ ap (λ (c : Literals). key_of (first_of c)) (input_at inputs number x.0 at)) lists)
+    input_listed inputs old new number x.0 before at (subst (λ (c : Literals). IsListedUnderOne old new c number) (input_at inputs number x.0 at) under)
 
 -- ---- the beginning
 

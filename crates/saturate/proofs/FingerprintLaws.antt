@@ -1,6 +1,6 @@
 -- What fingerprints leave out: clauses that don't subsume each other, and clauses from which nothing follows.
 use Rattle.std.proofs.Common.{◌≡◌, ◌⊎◌, inl, inr, ◌<◌, ℕ, zero, suc, nat_eq, List, [], ◌∷◌, map, length, get_or, Bool, true, false, not, ◌&&◌, ◌||◌, if◌then◌else◌, Option, Some, None, is_some, refl, sym, ap, ap₂, ◌∙◌, subst, eq-eqb, arith}
-use Rattle.std.specs.List.{list_any}
+use Rattle.std.specs.List.{list_any, list_all}
 use Rattle.std.proofs.lemmas.Bool.{or_parts}
 use Rattle.std.proofs.lemmas.List.{length-map}
 use Rattle.sigma_base.specs.Lists.{Each, each_append, each_map}
@@ -13,11 +13,11 @@ use Rattle.kif_tree.specs.Clauses.{Literals, bind_literal, bind_clause, same_sig
 use Rattle.kif_tree.specs.FormLaws.{induction}
 use Rattle.kif_tree.proofs.SubstLaws.{bind-List}
 use Rattle.calculus.specs.declared.places.Sides.{Sides}
-use Rattle.calculus.specs.Rules.{nth, sides}
+use Rattle.calculus.specs.Rules.{nth, sides, Picked, pick, others}
 use Rattle.calculus.specs.Answers.{Among}
 use Rattle.calculus.proofs.PlaceLaws.{none_some, some_same, picked}
-use Rattle.calculus.proofs.MemberLaws.{among-right, among-map, any-among, later}
-use Rattle.calculus.proofs.TruthLaws.{false_true, signs}
+use Rattle.calculus.proofs.MemberLaws.{among-left, among-right, among-parted, among-map, any-among, later}
+use Rattle.calculus.proofs.TruthLaws.{both, false_true, signs}
 use Rattle.calculus_programs.proofs.PickLaws.{some_item}
 use Rattle.unify.specs.Subsumption.{Subsumes, StandsBeside, Stand}
 use Rattle.unify.specs.Unifiers.{HasNoneApart}
@@ -26,8 +26,9 @@ use Rattle.infer.specs.Conclusions.{GivesNothing, AreConclusions}
 use Rattle.infer.proofs.ListLaws.{each_below-each, at-nothing}
 use Rattle.infer.proofs.ResolveLaws.{resolve_none, one_sign}
 use Rattle.infer.proofs.ConclusionLaws.{IsNoEquality, both_ways, nothing_by_literal}
+use Rattle.saturate.specs.declared.fingerprint.Fingerprint.{Fingerprint}
 use Rattle.saturate.specs.Inputs.{is_equality}
-use Rattle.saturate.specs.Fingerprints.{code, part_code, fits, agree, fingerprint, may_become, may_clash, first_of, others_of, has_equation, fingerprints, may_subsume, may_resolve, may_meet}
+use Rattle.saturate.specs.Fingerprints.{code, part_code, fits, agree, fingerprint, may_become, may_clash, first_of, others_of, has_equation, fingerprints, may_be_in, may_subsume, may_resolve, may_meet}
 use Rattle.saturate.proofs.CodeLaws.{kept}
 
 -- ---- codes
@@ -116,20 +117,58 @@ clashes f g l m differ meet = go (parts-bind f l.atom) (parts-bind g m.atom)
 
 -- ---- subsumption
 
--- the first literal of the general clause becomes one of the special clause
+-- the literals of a clause beside a chosen one are its own
+module _ (clause : Literals) (place : ℕ) (found : Picked Literal) (at : pick clause place ≡ Some found) where
+  chosen_among : Among found.chosen clause
+  chosen_among =
+      subst (Among found.chosen) (sym (picked clause place found at)) (among-right found.chosen found.before (found.chosen ∷ found.following) (inl refl))
+
+  others_among : (literal : Literal) → Among literal (others found) → Among literal clause
+  others_among literal there = subst (Among literal) (sym (picked clause place found at)) (elim (among-parted literal found.before found.following there) [
+    | inl h ↦ among-left literal found.before (found.chosen ∷ found.following) h
+    | inr h ↦ among-right literal found.before (found.chosen ∷ found.following) (inr h)
+  ])
+
+-- each literal of the general clause becomes one of the special clause
+each_stands : (g : Filling) (general special : Literals) → Stand (bind_clause g general) special → Each (λ literal. Among (bind_literal g literal) special) general
+each_stands g [] special stand = tt
+each_stands g (literal ∷ general) special stand =
+    let stands : StandsBeside (bind_literal g literal) (Stand (bind_clause g general)) special = stand in (
+      subst (λ (l : Literal). Among l special) stands.is (chosen_among special stands.place stands.found stands.at),
+      each_map (λ l. Among (bind_literal g l) (others stands.found)) (λ l. Among (bind_literal g l) special)
+          (λ l. others_among special stands.place stands.found stands.at (bind_literal g l)) general
+          (each_stands g general (others stands.found) stands.rest),
+    )
+
+-- and is seen to
+seen_in : (g : Filling) (literal : Literal) (clause : Literals) → Among (bind_literal g literal) clause → may_be_in (fingerprint literal) (fingerprints clause) ≡ true
+seen_in g literal [] there = absurd there
+seen_in g literal (first ∷ more) (inl e) = sooner _ _ (ap (λ (l : Literal). may_become (fingerprint literal) (fingerprint l)) (sym e) ∙ becomes g literal)
+seen_in g literal (first ∷ more) (inr there) =
+    later _ _ (any-among (may_become (fingerprint literal)) (map fingerprint more) (fingerprint (bind_literal g literal))
+    (among-map fingerprint (bind_literal g literal) more there) (becomes g literal))
+
+all_seen_in : (g : Filling) (literals clause : Literals) → Each (λ literal. Among (bind_literal g literal) clause) literals
+    → list_all (λ print. may_be_in print (fingerprints clause)) (map fingerprint literals) ≡ true
+all_seen_in g [] clause each = refl
+all_seen_in g (literal ∷ literals) clause each = ap₂ ◌&&◌ (seen_in g literal clause each.0) (all_seen_in g literals clause each.1)
+
 pub subsumes_seen : (general special : Literals) → Subsumes general special → may_subsume (fingerprints general) (fingerprints special) ≡ true
 subsumes_seen [] special s = refl
 subsumes_seen (literal ∷ literals) special s =
-    let stands : StandsBeside (bind_literal s.by literal) (Stand (bind_clause s.by literals)) special = s.sends in
-    seen special (subst (Among (bind_literal s.by literal)) (sym (picked special stands.place stands.found stands.at))
-    (among-right (bind_literal s.by literal) stands.found.before (stands.found.chosen ∷ stands.found.following) (inl (sym stands.is))))
-  where
-    seen : (clause : Literals) → Among (bind_literal s.by literal) clause → may_subsume (fingerprints (literal ∷ literals)) (fingerprints clause) ≡ true
-    seen [] there = absurd there
-    seen (first ∷ others) (inl e) = sooner _ _ (ap (λ (l : Literal). may_become (fingerprint literal) (fingerprint l)) (sym e) ∙ becomes s.by literal)
-    seen (first ∷ others) (inr there) = later _ _
-        (any-among (may_become (fingerprint literal)) (map fingerprint others) (fingerprint (bind_literal s.by literal))
-        (among-map fingerprint (bind_literal s.by literal) others there) (becomes s.by literal))
+    let each = each_stands s.by (literal ∷ literals) special s.sends in
+    ap₂ ◌&&◌ (seen_in s.by literal special each.0) (all_seen_in s.by literals special each.1)
+
+all_among : {X : Type 0} (p : X → Bool) (xs : List X) (x : X) → Among x xs → list_all p xs ≡ true → p x ≡ true
+all_among p [] x there all = absurd there
+all_among p (y ∷ xs) x (inl e) all = ap p e ∙ (both (p y) (list_all p xs) all).0
+all_among p (y ∷ xs) x (inr there) all = all_among p xs x there (both (p y) (list_all p xs) all).1
+
+-- by any of its literals
+pub subsumes_seen_by : (general special : Literals) → Subsumes general special → (print : Fingerprint) → Among print (first_of general ∷ others_of general)
+    → may_be_in print (fingerprints special) ≡ true
+subsumes_seen_by general special s print there =
+    all_among (λ other. may_be_in other (fingerprints special)) (first_of general ∷ others_of general) print there (subsumes_seen general special s)
 
 -- ---- resolutions
 

@@ -1,5 +1,5 @@
 -- An index of known clauses: what is found by it is covered, and what is covered is found.
-use Rattle.std.proofs.Common.{◌≡◌, ◌⊎◌, inl, inr, ◌<◌, ℕ, zero, suc, nat_eq, List, [], ◌∷◌, map, Bool, true, false, ◌&&◌, ◌||◌, if◌then◌else◌, Option, refl, sym, ap, subst, arith}
+use Rattle.std.proofs.Common.{◌≡◌, ◌⊎◌, inl, inr, ◌<◌, ℕ, zero, suc, nat_eq, List, [], ◌∷◌, map, length, get_or, Bool, true, false, ◌&&◌, ◌||◌, if◌then◌else◌, Option, refl, sym, ap, subst, arith}
 use Rattle.std.specs.List.{list_any}
 use Rattle.std.proofs.lemmas.Bool.{eqb-true}
 use Rattle.sigma_base.specs.Lists.{Each}
@@ -9,7 +9,7 @@ use Rattle.kif_tree.specs.Names.{parts_in}
 use Rattle.kif_tree.specs.Clauses.{Literals, same_sign}
 use Rattle.calculus.specs.Evidence.{list_from}
 use Rattle.calculus.specs.Answers.{Among}
-use Rattle.calculus.proofs.MemberLaws.{each_at}
+use Rattle.calculus.proofs.MemberLaws.{among-map, each_at}
 use Rattle.calculus.proofs.TruthLaws.{both, false_true, signs}
 use Rattle.unify.specs.Subsumption.{Subsumes}
 use Rattle.infer.specs.Conclusions.{clause_at}
@@ -18,9 +18,9 @@ use Rattle.saturate.specs.declared.reached.Reached.{Reached}
 use Rattle.saturate.specs.Covered.{is_tautology, IsSubsumed, IsNeedless}
 use Rattle.saturate.specs.Fingerprints.{mixed, code_of_text, code_of_parts, code, part_code, fits, fingerprint_of, fingerprint, may_become, first_of, others_of}
 use Rattle.saturate.specs.Runs.{clauses, known, IsCovered}
-use Rattle.saturate.specs.Indexes.{Listing, key, key_of, HasCodes, UnderSecond, UnderFirst, UnderHead, UnderPrint, UnderAny, UnderClause, IsIndexed}
+use Rattle.saturate.specs.Indexes.{Listing, key, key_of, HasCodes, UnderSecond, UnderFirst, UnderHead, UnderPrint, UnderAny, UnderClause, IsListedBy, IsIndexed}
 use Rattle.saturate.proofs.CodeLaws.{code-Word, code-Variable, code-Row, code-Numeral, code-Quoted, code-List}
-use Rattle.saturate.proofs.FingerprintLaws.{subsumes_seen}
+use Rattle.saturate.proofs.FingerprintLaws.{subsumes_seen_by}
 use Rattle.saturate.proofs.SubsumedLaws.{covered_processed}
 use Rattle.saturate.proofs.SubsumptionLaws.{subsumes_via, tautologies_subsume}
 
@@ -71,6 +71,17 @@ others_have_codes (literal ∷ literals) = each literals
     each [] = tt
     each (other ∷ others) = (has_codes other.positive (parts_in other.atom), each others)
 
+-- the key of one of some fingerprints
+pub key_among : (prints items : List Fingerprint) (i : ℕ) (other : Fingerprint) (place : ℕ) → items ≡ prints → i < length items → place ≡ key_of (get_or items i other)
+    → Among place (map key_of prints)
+key_among prints items i other place is below at =
+    subst (Among place) (ap (map key_of) is) (subst (λ (n : ℕ). Among n (map key_of items)) (sym at) (among-map key_of (get_or items i other) items (go items i below)))
+  where
+    go : (items : List Fingerprint) (i : ℕ) → i < length items → Among (get_or items i other) items
+    go [] i below = absurd (omega arith)
+    go (print ∷ items) zero below = inl refl
+    go (print ∷ items) (suc i) below = inr (go items i (omega arith))
+
 -- ---- what is covered is found
 
 -- a code that fits is the other one, or none
@@ -92,6 +103,25 @@ none_without positive (f ∷ parts) e = absurd (omega arith)
 first_without : (clause : Literals) → HasNone (first_of clause)
 first_without [] = none_without true []
 first_without (literal ∷ literals) = none_without literal.positive (parts_in literal.atom)
+
+others_without : (clause : Literals) → Each HasNone (others_of clause)
+others_without [] = tt
+others_without (literal ∷ literals) = each literals
+  where
+    each : (more : Literals) → Each HasNone (map fingerprint more)
+    each [] = tt
+    each (other ∷ others) = (none_without other.positive (parts_in other.atom), each others)
+
+-- a key is that of a fingerprint
+record Keyed (prints : List Fingerprint) (place : ℕ) : Type 0 where
+  print : Fingerprint
+  among : Among print prints
+  is : place ≡ key_of print
+
+keyed : (prints : List Fingerprint) (place : ℕ) → Among place (map key_of prints) → Keyed prints place
+keyed [] place there = absurd there
+keyed (print ∷ prints) place (inl e) = record { print = print; among = inl refl; is = e }
+keyed (print ∷ prints) place (inr there) = let k = keyed prints place there in record { print = k.print; among = inr k.among; is = k.is }
 
 module _ (listing : Listing) (all : List Literals) (clause : Literals) where
   abbrev Here : ℕ → Type 0
@@ -166,11 +196,20 @@ pub covered_found : (listing : Listing) (r : Reached) (clause : Literals) → Is
     → (is_tautology clause ≡ true) ⊎ UnderClause listing (clauses r) clause
 covered_found listing r clause indexed (inl h) = inl h
 covered_found listing r clause indexed (inr s) =
-    let there = each_at (λ number. Among number (listing (key_of (first_of (clause_at (clauses r) number))))) (known r) s.number s.among indexed.all in
+    let there = each_at (λ number. IsListedBy listing (clause_at (clauses r) number) number) (known r) s.number s.among indexed.all in
     let is : clause_at (clauses r) s.number ≡ s.general = ap (λ (o : Option Literals). list_from o (λ clause. clause)) s.at in
-    let among : Among s.number (listing (key_of (first_of s.general))) = subst (λ (c : Literals). Among s.number (listing (key_of (first_of c)))) is there in
-    inr (seen_any listing (clauses r) clause (first_of s.general) (first_of clause ∷ others_of clause) (first_without s.general) (subsumes_seen s.general clause s.subsumes)
-    (record { number = s.number; among = among; general = s.general; at = s.at; subsumes = s.subsumes }))
+    let by : IsListedBy listing s.general s.number = subst (λ (c : Literals). IsListedBy listing c s.number) is there in
+    let prints = first_of s.general ∷ others_of s.general in
+    let key = keyed prints by.place by.is_key in
+    let none : HasNone key.print = each_at HasNone prints key.print key.among (first_without s.general, others_without s.general) in
+    inr (seen_any listing (clauses r) clause key.print (first_of clause ∷ others_of clause) none (subsumes_seen_by s.general clause s.subsumes key.print key.among)
+    (record {
+      number = s.number;
+      among = subst (λ (n : ℕ). Among s.number (listing n)) key.is by.among;
+      general = s.general;
+      at = s.at;
+      subsumes = s.subsumes;
+    }))
 
 -- ---- what is found is covered
 

@@ -17,17 +17,16 @@ use Rattle.saturate.specs.declared.limits.Mode.{Mode}
 use Rattle.saturate.specs.declared.limits.Mode.TheVariants.{Support, Full}
 use Rattle.saturate.specs.declared.reached.Reached.{Reached}
 use Rattle.saturate.specs.Covered.{IsNeedless}
-use Rattle.saturate.specs.Fingerprints.{first_of}
 use Rattle.saturate.specs.Inputs.{is_query_number}
-use Rattle.saturate.specs.Indexes.{Listing, key_of, IsIndexed, AreListed, IsListed}
+use Rattle.saturate.specs.Indexes.{Listing, IsListedBy, IsIndexed, AreListed, IsListed, IsListedUnderOne}
 use Rattle.saturate.specs.Runs.{clauses, known, numbers_from, numbers_of, beginning, grown, with_waiting, with_aside, with_found, taken, given_processed}
 use Rattle.saturate.proofs.CoverLaws.{among_without, known_parts, known_joined, Grows, clause_stays, longer_still, needless_still, grows_same, names_known}
 use Rattle.saturate.proofs.ListLaws.{each_of_members, among_filtered}
 use Rattle.saturate.proofs.StepLaws.{nth-last, clauses_grown, stands_beginning}
 
--- the key of the first literal of the clause of that number
-abbrev pub place_of : List Literals → ℕ → ℕ
-place_of all number = key_of (first_of (clause_at all number))
+-- the clause of that number is listed
+abbrev IsListedAt : Listing → List Literals → ℕ → Type 0
+IsListedAt listing all number = IsListedBy listing (clause_at all number) number
 
 -- what stands under a key when one number more is listed
 module _ (old new : Listing) (place number : ℕ) (lists : IsListed old new place number) where
@@ -55,17 +54,28 @@ module _ (old new : Listing) (place number : ℕ) (lists : IsListed old new plac
       go true h = last (among-parted n (old other) (number ∷ []) h)
       go false h = inl h
 
+-- and what is listed of clauses
+module _ (old new : Listing) (clause : Literals) (number : ℕ) (under : IsListedUnderOne old new clause number) where
+  pub stays_listed : (other : Literals) (n : ℕ) → IsListedBy old other n → IsListedBy new other n
+  stays_listed other n by = record { place = by.place; is_key = by.is_key; among = listed_before old new under.place number under.lists by.place n by.among }
+
+  pub is_listed : IsListedBy new clause number
+  is_listed = record { place = under.place; is_key = under.is_key; among = listed_now old new under.place number under.lists }
+
 -- ---- clauses that come
 
 -- what is indexed is no later number
 known_below : (listing : Listing) (r : Reached) → IsIndexed listing r → (n : ℕ) → Among n (known r) → n < length (clauses r)
 known_below listing r indexed n there =
-    indexed.named (place_of (clauses r) n) n (each_at (λ number. Among number (listing (place_of (clauses r) number))) (known r) n there indexed.all)
+    let by = each_at (IsListedAt listing (clauses r)) (known r) n there indexed.all in
+    indexed.named by.place n by.among
 
 -- clauses are added, and the same numbers are processed
 module _ (listing : Listing) (old new : Reached) (indexed : IsIndexed listing old) (grows : Grows old new) (same : new.processed ≡ old.processed) where
-  place_stays : (n : ℕ) → n < length (clauses old) → place_of (clauses old) n ≡ place_of (clauses new) n
-  place_stays n below = ap (λ (c : Literals). key_of (first_of c)) (sym (clause_stays old new grows n below))
+  listed_still : (n : ℕ) → Among n (known old) → IsListedAt listing (clauses new) n
+  listed_still n was =
+      subst (λ (c : Literals). IsListedBy listing c n) (sym (clause_stays old new grows n (known_below listing old indexed n was)))
+      (each_at (IsListedAt listing (clauses old)) (known old) n was indexed.all)
 
   needless_later : (n : ℕ) → n < length (clauses old) → IsNeedless (clauses old) old.processed (clause_at (clauses old) n)
       → IsNeedless (clauses new) new.processed (clause_at (clauses new) n)
@@ -76,10 +86,7 @@ module _ (listing : Listing) (old new : Reached) (indexed : IsIndexed listing ol
   -- and no other number is known
   pub indexed_same : ((n : ℕ) → Among n (known old) → Among n (known new)) → ((n : ℕ) → Among n (known new) → Among n (known old)) → IsIndexed listing new
   indexed_same still only = record {
-    all = each_of_members (λ number. Among number (listing (place_of (clauses new) number))) (known new) (λ n there.
-        let was = only n there in
-        subst (λ (place : ℕ). Among n (listing place)) (place_stays n (known_below listing old indexed n was))
-        (each_at (λ number. Among number (listing (place_of (clauses old) number))) (known old) n was indexed.all));
+    all = each_of_members (IsListedAt listing (clauses new)) (known new) (λ n there. listed_still n (only n there));
     named = λ place n there. longer_still old new grows n (indexed.named place n there);
     right = λ place n there. elim (indexed.right place n there) [
       | inl h ↦ inl (still n h)
@@ -88,23 +95,19 @@ module _ (listing : Listing) (old new : Reached) (indexed : IsIndexed listing ol
   }
 
   -- and one number more is known, which is listed
-  module _ (longer : Listing) (number : ℕ) (below : number < length (clauses new)) (lists : IsListed listing longer (place_of (clauses new) number) number) where
+  module _ (longer : Listing) (number : ℕ) (below : number < length (clauses new)) (under : IsListedUnderOne listing longer (clause_at (clauses new) number) number) where
     pub indexed_more : ((n : ℕ) → Among n (known old) → Among n (known new)) → Among number (known new)
         → ((n : ℕ) → Among n (known new) → Among n (known old) ⊎ (n ≡ number)) → IsIndexed longer new
     indexed_more still here only = record {
-      all = each_of_members (λ n. Among n (longer (place_of (clauses new) n))) (known new) (λ n there. elim (only n there) [
-        | inl was ↦
-            listed_before listing longer (place_of (clauses new) number) number lists (place_of (clauses new) n) n
-            (subst (λ (place : ℕ). Among n (listing place)) (place_stays n (known_below listing old indexed n was))
-            (each_at (λ m. Among m (listing (place_of (clauses old) m))) (known old) n was indexed.all))
-        | inr e ↦
-            subst (λ (m : ℕ). Among m (longer (place_of (clauses new) m))) (sym e) (listed_now listing longer (place_of (clauses new) number) number lists)
+      all = each_of_members (IsListedAt longer (clauses new)) (known new) (λ n there. elim (only n there) [
+        | inl was ↦ stays_listed listing longer (clause_at (clauses new) number) number under (clause_at (clauses new) n) n (listed_still n was)
+        | inr e ↦ subst (IsListedAt longer (clauses new)) (sym e) (is_listed listing longer (clause_at (clauses new) number) number under)
       ]);
-      named = λ place n there. elim (listed_either listing longer (place_of (clauses new) number) number lists place n there) [
+      named = λ place n there. elim (listed_either listing longer under.place number under.lists place n there) [
         | inl h ↦ longer_still old new grows n (indexed.named place n h)
         | inr e ↦ subst (λ (m : ℕ). m < length (clauses new)) (sym e) below
       ];
-      right = λ place n there. elim (listed_either listing longer (place_of (clauses new) number) number lists place n there) [
+      right = λ place n there. elim (listed_either listing longer under.place number under.lists place n there) [
         | inl h ↦ elim (indexed.right place n h) [
           | inl k ↦ inl (still n k)
           | inr k ↦ inr (needless_later n (indexed.named place n h) k)
@@ -128,15 +131,15 @@ module _ (listing : Listing) (r : Reached) (conclusion : Conclusion) (indexed : 
   pub indexed_grown_alone : IsIndexed listing (grown r conclusion)
   indexed_grown_alone = indexed_same listing r (grown r conclusion) indexed grown_grows refl (λ n h. h) (λ n h. h)
 
-  module _ (longer : Listing) (counted : length r.steps ≡ length (clauses r)) (lists : IsListed listing longer (key_of (first_of conclusion.clause)) (length r.steps)) where
+  module _ (longer : Listing) (counted : length r.steps ≡ length (clauses r)) (under : IsListedUnderOne listing longer conclusion.clause (length r.steps)) where
     last_below : length r.steps < length (clauses (grown r conclusion))
     last_below =
         let more = ap length (clauses_grown r conclusion) in
         let parts = length-append (clauses r) (conclusion.clause ∷ []) in
         omega (arith, more, parts, counted)
 
-    last_listed : IsListed listing longer (place_of (clauses (grown r conclusion)) (length r.steps)) (length r.steps)
-    last_listed = subst (λ (c : Literals). IsListed listing longer (key_of (first_of c)) (length r.steps)) (sym (grown_clause r conclusion counted)) lists
+    last_listed : IsListedUnderOne listing longer (clause_at (clauses (grown r conclusion)) (length r.steps)) (length r.steps)
+    last_listed = subst (λ (c : Literals). IsListedUnderOne listing longer c (length r.steps)) (sym (grown_clause r conclusion counted)) under
 
     -- a number at the end of a list
     ended : (numbers : List ℕ) (n : ℕ) → Among n (numbers ++ length r.steps ∷ []) → Among n numbers ⊎ (n ≡ length r.steps)
@@ -247,8 +250,8 @@ module _ (listing : Listing) (r : Reached) (given : ℕ) (indexed : IsIndexed li
 
   pub indexed_dropped : IsNeedless (clauses r) r.processed (clause_at (clauses r) given) → IsIndexed listing (taken r given)
   indexed_dropped needless = record {
-    all = each_of_members (λ n. Among n (listing (place_of (clauses r) n))) (known (taken r given)) (λ n there.
-        each_at (λ m. Among m (listing (place_of (clauses r) m))) (known r) n (taken_known n there) indexed.all);
+    all = each_of_members (IsListedAt listing (clauses r)) (known (taken r given)) (λ n there.
+        each_at (IsListedAt listing (clauses r)) (known r) n (taken_known n there) indexed.all);
     named = indexed.named;
     right = λ place n there. elim (indexed.right place n there) [
       | inl h ↦ elim (known_taken n h) [
@@ -290,8 +293,8 @@ module _ (listing : Listing) (r : Reached) (given : ℕ) (indexed : IsIndexed li
 
     pub indexed_processed : IsIndexed listing (given_processed r given)
     indexed_processed = record {
-      all = each_of_members (λ n. Among n (listing (place_of (clauses r) n))) (known (given_processed r given)) (λ n there.
-          each_at (λ m. Among m (listing (place_of (clauses r) m))) (known r) n (processed_known n there) indexed.all);
+      all = each_of_members (IsListedAt listing (clauses r)) (known (given_processed r given)) (λ n there.
+          each_at (IsListedAt listing (clauses r)) (known r) n (processed_known n there) indexed.all);
       named = indexed.named;
       right = λ place n there. elim (indexed.right place n there) [
         | inl h ↦ inl (known_processed n h)
@@ -337,20 +340,19 @@ known_begun inputs Support n below = go (is_query_number inputs n) refl
 
 module _ (inputs : List InputClause) where
   pub input_listed : (old new : Listing) (number : ℕ) (input : InputClause) → AreListed inputs old number → nth inputs number ≡ Some input
-      → IsListed old new (key_of (first_of input.clause)) number → AreListed inputs new (number + 1)
-  input_listed old new number input listed at lists =
+      → IsListedUnderOne old new input.clause number → AreListed inputs new (number + 1)
+  input_listed old new number input listed at under =
       let is : clause_at (clauses_of inputs) number ≡ input.clause = input_at inputs number input at in
-      let place = key_of (first_of input.clause) in
       record {
         all = λ n below. elim (eqb_tells n number) [
           | inl h ↦
-              subst (λ (m : ℕ). Among m (new (place_of (clauses_of inputs) m))) (sym h.1)
-              (subst (λ (c : Literals). Among number (new (key_of (first_of c)))) (sym is) (listed_now old new place number lists))
+              subst (IsListedAt new (clauses_of inputs)) (sym h.1)
+              (subst (λ (c : Literals). IsListedBy new c number) (sym is) (is_listed old new input.clause number under))
           | inr h ↦
               let less : n < number = omega (arith, h.1) in
-              listed_before old new place number lists (place_of (clauses_of inputs) n) n (listed.all n less)
+              stays_listed old new input.clause number under (clause_at (clauses_of inputs) n) n (listed.all n less)
         ];
-        named = λ other n there. elim (listed_either old new place number lists other n there) [
+        named = λ other n there. elim (listed_either old new under.place number under.lists other n there) [
           | inl h ↦ let below = listed.named other n h in omega arith
           | inr e ↦ omega arith
         ];
@@ -362,9 +364,9 @@ module _ (inputs : List InputClause) where
       let whole : clauses r ≡ clauses_of inputs = append-nil (clauses_of inputs) in
       let many : length (clauses r) ≡ length inputs = ap length whole ∙ length-map inputs (λ (input : InputClause). input.clause) in
       record {
-        all = each_of_members (λ n. Among n (listing (place_of (clauses r) n))) (known r) (λ n there.
+        all = each_of_members (IsListedAt listing (clauses r)) (known r) (λ n there.
             let below = begun_below inputs mode n there in
-            subst (λ (all : List Literals). Among n (listing (place_of all n))) (sym whole) (listed.all n (omega (arith, below, many))));
+            subst (λ (all : List Literals). IsListedAt listing all n) (sym whole) (listed.all n (omega (arith, below, many))));
         named = λ place n there. let below = listed.named place n there in omega (arith, below, many);
         right = λ place n there. inl (known_begun inputs mode n (listed.named place n there));
       }

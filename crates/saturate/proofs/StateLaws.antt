@@ -7,6 +7,7 @@ use Rattle.sigma_base.specs.Lists.{Each, each_append, each_map}
 use Rattle.kif_tree.specs.declared.clause.InputClause.{InputClause}
 use Rattle.kif_tree.specs.Clauses.{Literals}
 use Rattle.calculus.specs.Rules.{nth}
+use Rattle.calculus.specs.Answers.{Among}
 use Rattle.calculus.proofs.PlaceLaws.{none_some, some_same}
 use Rattle.calculus_programs.proofs.PickLaws.{nth-some}
 use Rattle.infer.specs.declared.conclusion.Conclusion.{Conclusion}
@@ -16,10 +17,11 @@ use Rattle.infer.specs.Plain.{IsPlain}
 use Rattle.saturate.specs.declared.fingerprint.Fingerprints.{Fingerprints}
 use Rattle.saturate.specs.declared.reached.Reached.{Reached}
 use Rattle.saturate.specs.declared.reached.State.{State}
-use Rattle.saturate.specs.Fingerprints.{fingerprints, first_of}
-use Rattle.saturate.specs.Indexes.{Listing, listed, key_of, IsIndexed, IsListed}
+use Rattle.saturate.specs.Fingerprints.{fingerprints}
+use Rattle.saturate.specs.Indexes.{Listing, listed, key_of, HasCodes, IsKeyOf, IsIndexed, IsListedUnderOne}
 use Rattle.saturate.specs.Runs.{clauses, weight, kept_count, is_derived, grown, with_waiting, with_aside, with_found}
 use Rattle.saturate.specs.States.{HasWeights, HasFingerprints, IsConsistent}
+use Rattle.saturate.proofs.IndexLaws.{first_has_codes, others_have_codes}
 use Rattle.saturate.proofs.IndexStepLaws.{indexed_grown_alone, indexed_found, indexed_aside, indexed_waits, grown_clause}
 
 -- the number of the next step is no input's
@@ -42,15 +44,23 @@ prints_listed state list number prints has is below at =
     prints_at (clauses state.reached) number prints (ap (λ (all : List Fingerprints). nth all number) (sym (is ∙ has)) ∙ nth-some list number prints below at)
 
 -- by the fingerprints that stand in order of the clauses
-pub first_listed : (all : List Literals) (list : List Fingerprints) (number : ℕ) (other : Fingerprints) → list ≡ map fingerprints all → number < length all
-    → (get_or list number other).first ≡ first_of (clause_at all number)
-first_listed all list number other is below =
-    ap (λ (prints : List Fingerprints). (get_or prints number other).first) is ∙ go all number below
+pub listed_prints : (all : List Literals) (list : List Fingerprints) (number : ℕ) (other : Fingerprints) → list ≡ map fingerprints all → number < length all
+    → get_or list number other ≡ fingerprints (clause_at all number)
+listed_prints all list number other is below = ap (λ (prints : List Fingerprints). get_or prints number other) is ∙ go all number below
   where
-    go : (all : List Literals) (number : ℕ) → number < length all → (get_or (map fingerprints all) number other).first ≡ first_of (clause_at all number)
+    go : (all : List Literals) (number : ℕ) → number < length all → get_or (map fingerprints all) number other ≡ fingerprints (clause_at all number)
     go [] number below = absurd (omega arith)
     go (clause ∷ all) zero below = refl
     go (clause ∷ all) (suc number) below = go all number (omega arith)
+
+-- a key of the fingerprints is one of the clause
+pub key_listed : (clause : Literals) (prints : Fingerprints) (place : ℕ) → prints ≡ fingerprints clause → Among place (map key_of (prints.first ∷ prints.others))
+    → IsKeyOf clause place
+key_listed clause prints place is there = subst (λ (p : Fingerprints). Among place (map key_of (p.first ∷ p.others))) is there
+
+pub codes_listed : (clause : Literals) (prints : Fingerprints) → prints ≡ fingerprints clause → HasCodes prints.first × Each HasCodes prints.others
+codes_listed clause prints is =
+    subst (λ (p : Fingerprints). HasCodes p.first × Each HasCodes p.others) (sym is) (first_has_codes clause, others_have_codes clause)
 
 -- one clause more, which isn't listed
 pub consistent_grown : (old new : State) (conclusion : Conclusion) → IsConsistent old → new.reached ≡ grown old.reached conclusion → new.listed ≡ old.listed
@@ -194,7 +204,7 @@ pub record IsAdded (old new : State) (conclusion : Conclusion) (next : ℕ) : Ty
 
 -- and how it is listed
 pub record IsLonger (new longer : State) (next : ℕ) : Type 0 where
-  pub lists : IsListed (listed new.listed) (listed longer.listed) (key_of (first_of (clause_at (clauses new.reached) next))) next
+  pub lists : IsListedUnderOne (listed new.listed) (listed longer.listed) (clause_at (clauses new.reached) next) next
   pub reached : longer.reached ≡ new.reached
   pub weights : longer.weights ≡ new.weights
   pub fingerprints : longer.fingerprints ≡ new.fingerprints
@@ -219,14 +229,13 @@ module _ (old new : State) (conclusion : Conclusion) (number : ℕ) (consistent 
     unlisted_last : IsLast unlisted number
     unlisted_last = last_grown old unlisted conclusion number consistent (is.reached ∙ added.grows) added.number
 
-    lists_first : IsListed (listed old.listed) (listed longer.listed) (key_of (first_of conclusion.clause)) (length old.reached.steps)
-    lists_first =
-        let r = grown old.reached conclusion in
+    lists_last : IsListedUnderOne (listed old.listed) (listed longer.listed) conclusion.clause (length old.reached.steps)
+    lists_last =
         let there : clause_at (clauses new.reached) number ≡ conclusion.clause =
         ap₂ (λ (s : Reached) (n : ℕ). clause_at (clauses s) n) added.grows added.number ∙ grown_clause old.reached conclusion consistent.steps in
-        subst (λ (l : Listing). IsListed l (listed longer.listed) (key_of (first_of conclusion.clause)) (length old.reached.steps)) (ap listed added.listed)
-        (subst (IsListed (listed new.listed) (listed longer.listed) (key_of (first_of conclusion.clause))) added.number
-        (subst (λ (c : Literals). IsListed (listed new.listed) (listed longer.listed) (key_of (first_of c)) number) there is.lists))
+        subst (λ (l : Listing). IsListedUnderOne l (listed longer.listed) conclusion.clause (length old.reached.steps)) (ap listed added.listed)
+        (subst (IsListedUnderOne (listed new.listed) (listed longer.listed) conclusion.clause) added.number
+        (subst (λ (c : Literals). IsListedUnderOne (listed new.listed) (listed longer.listed) c number) there is.lists))
 
     -- the list of the last ones
     ends : (of : Reached → List ℕ) (numbers : List ℕ) → of (grown old.reached conclusion) ≡ of old.reached → numbers ≡ of longer.reached ++ number ∷ []
@@ -246,7 +255,7 @@ module _ (old new : State) (conclusion : Conclusion) (number : ℕ) (consistent 
         let whole = ap₂ with_found (is.reached ∙ added.grows) (ends (λ (s : Reached). s.found) found refl last) in
         consistent_found unlisted longer found unlisted_consistent
         (subst (IsIndexed (listed longer.listed)) (sym whole)
-        (indexed_found (listed old.listed) old.reached conclusion consistent.indexed (listed longer.listed) consistent.steps lists_first))
+        (indexed_found (listed old.listed) old.reached conclusion consistent.indexed (listed longer.listed) consistent.steps lists_last))
 
     pub aside_consistent : (aside : List ℕ) (kept : ℕ) → aside ≡ longer.reached.aside ++ number ∷ [] → kept ≡ longer.kept + 1
         → IsConsistent (record {
@@ -260,7 +269,7 @@ module _ (old new : State) (conclusion : Conclusion) (number : ℕ) (consistent 
         let whole = ap₂ with_aside (is.reached ∙ added.grows) (ends (λ (s : Reached). s.aside) aside refl last) in
         consistent_aside unlisted longer number kept aside unlisted_consistent unlisted_last last more
         (subst (IsIndexed (listed longer.listed)) (sym whole)
-        (indexed_aside (listed old.listed) old.reached conclusion consistent.indexed (listed longer.listed) consistent.steps lists_first))
+        (indexed_aside (listed old.listed) old.reached conclusion consistent.indexed (listed longer.listed) consistent.steps lists_last))
 
     pub waits_consistent : (waiting : List ℕ) (kept : ℕ) → waiting ≡ longer.reached.waiting ++ number ∷ [] → kept ≡ longer.kept + 1
         → IsConsistent (record {
@@ -274,4 +283,4 @@ module _ (old new : State) (conclusion : Conclusion) (number : ℕ) (consistent 
         let whole = ap₂ with_waiting (is.reached ∙ added.grows) (ends (λ (s : Reached). s.waiting) waiting refl last) in
         consistent_waits unlisted longer number kept waiting unlisted_consistent unlisted_last last more
         (subst (IsIndexed (listed longer.listed)) (sym whole)
-        (indexed_waits (listed old.listed) old.reached conclusion consistent.indexed (listed longer.listed) consistent.steps lists_first))
+        (indexed_waits (listed old.listed) old.reached conclusion consistent.indexed (listed longer.listed) consistent.steps lists_last))

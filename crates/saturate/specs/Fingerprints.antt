@@ -1,7 +1,7 @@
 -- Fingerprints: numbers by which it is seen, without a walk through two clauses, that one can't subsume the other, or that nothing
 -- follows from both. No definition of a search speaks of them.
 use Rattle.std.specs.Prelude.{ℕ, ◌+◌, ◌*◌, ◌%◌, nat_eq, List, [], ◌∷◌, map, length, Bool, true, not, ◌&&◌, ◌||◌, if◌then◌else◌, Option, Some, None}
-use Rattle.std.specs.List.{list_any}
+use Rattle.std.specs.List.{list_any, list_all}
 use Rattle.kif_tree.specs.declared.form.Form.{Form, fold-Form}
 use Rattle.kif_tree.specs.declared.form.Form.TheOpen.{Form-F}
 use Rattle.kif_tree.specs.declared.clause.Literal.{Literal}
@@ -97,9 +97,13 @@ has_equation clause = list_any (λ literal. literal.positive && is_equality lite
 abbrev pub fingerprints : Literals → Fingerprints
 fingerprints clause = record { first = first_of clause; others = others_of clause; equation = has_equation clause }
 
+-- where it is false, the literal doesn't become one of the clause
+abbrev pub may_be_in : Fingerprint → Fingerprints → Bool
+may_be_in print others = may_become print others.first || list_any (may_become print) others.others
+
 -- where it is false, the first clause doesn't subsume the second
 abbrev pub may_subsume : Fingerprints → Fingerprints → Bool
-may_subsume prints others = may_become prints.first others.first || list_any (may_become prints.first) others.others
+may_subsume prints others = may_be_in prints.first others && list_all (λ print. may_be_in print others) prints.others
 
 abbrev pub may_resolve : Fingerprint → Fingerprints → Bool
 may_resolve print others = may_clash print others.first || list_any (may_clash print) others.others

@@ -1,5 +1,5 @@
--- Known clauses by the fingerprints of their first literals. No definition of a search speaks of them.
-use Rattle.std.specs.Prelude.{◌≡◌, ◌⊎◌, ◌<◌, ℕ, nat_eq, length, List, [], ◌∷◌, ◌++◌, Bool, true, false, if◌then◌else◌, unwrap_or}
+-- Known clauses, each by the fingerprint of one of its literals. No definition of a search speaks of them.
+use Rattle.std.specs.Prelude.{◌≡◌, ◌⊎◌, ◌<◌, ℕ, nat_eq, length, List, [], ◌∷◌, ◌++◌, map, Bool, true, false, if◌then◌else◌, unwrap_or}
 use Rattle.std.specs.HashMap.{HashMap, get}
 use Rattle.sigma_base.specs.Lists.{Each}
 use Rattle.kif_tree.specs.declared.clause.InputClause.{InputClause}
@@ -33,7 +33,7 @@ pub record HasCodes (print : Fingerprint) : Type 0 where
   pub first : print.first < 2147483648
   pub second : print.second < 2147483648
 
--- ---- what is looked up for a clause: the keys of all first literals that may become one of its literals
+-- ---- what is looked up for a clause: the keys of all literals that may become one of its literals
 
 abbrev pub Under : Listing → List Literals → Literals → Bool → ℕ → ℕ → ℕ → Type 0
 Under listing all clause positive head first second = IsSubsumed all (listing (key positive head first second)) clause
@@ -65,19 +65,35 @@ UnderClause listing all clause =
 
 -- ---- what is listed of a search
 
--- Each known clause stands under the key of its first literal. What is listed names a clause that is known, or that was dropped and is
+-- the key of one of the clause's literals, or that of what excludes nothing where it has none
+abbrev pub IsKeyOf : Literals → ℕ → Type 0
+IsKeyOf clause place = Among place (map key_of (first_of clause ∷ others_of clause))
+
+-- the number stands under such a key of the clause
+pub record IsListedBy (listing : Listing) (clause : Literals) (number : ℕ) : Type 0 where
+  pub place : ℕ
+  pub is_key : IsKeyOf clause place
+  pub among : Among number (listing place)
+
+-- Each known clause stands under the key of one of its literals. What is listed names a clause that is known, or that was dropped and is
 -- needless beside the processed clauses, so that what it subsumes is needless too.
 pub record IsIndexed (listing : Listing) (r : Reached) : Type 0 where
-  pub all : Each (λ number. Among number (listing (key_of (first_of (clause_at (clauses r) number))))) (known r)
+  pub all : Each (λ number. IsListedBy listing (clause_at (clauses r) number) number) (known r)
   pub named : (place number : ℕ) → Among number (listing place) → number < length (clauses r)
   pub right : (place number : ℕ) → Among number (listing place)
       → Among number (known r) ⊎ IsNeedless (clauses r) r.processed (clause_at (clauses r) number)
 
--- the numbers below the count, which are those of inputs, stand under the keys of these, and no others are listed
+-- the numbers below the count, which are those of inputs, stand under keys of these, and no others are listed
 pub record AreListed (inputs : List InputClause) (listing : Listing) (count : ℕ) : Type 0 where
-  pub all : (number : ℕ) → number < count → Among number (listing (key_of (first_of (clause_at (clauses_of inputs) number))))
+  pub all : (number : ℕ) → number < count → IsListedBy listing (clause_at (clauses_of inputs) number) number
   pub named : (place number : ℕ) → Among number (listing place) → number < count
 
 -- one number more under a key
 abbrev pub IsListed : Listing → Listing → ℕ → ℕ → Type 0
 IsListed old new place number = (other : ℕ) → new other ≡ (if nat_eq other place then old other ++ number ∷ [] else old other)
+
+-- and that is a key of the clause
+pub record IsListedUnderOne (old new : Listing) (clause : Literals) (number : ℕ) : Type 0 where
+  pub place : ℕ
+  pub is_key : IsKeyOf clause place
+  pub lists : IsListed old new place number

@@ -3,6 +3,7 @@ ghost use Rattle.std.specs.Prelude.{◌≡◌, IfOk};
 ghost use Rattle.kif_tree.specs.Terms.{greatest};
 ghost use Rattle.saturate.specs.Runs as spec;
 ghost use Rattle.saturate.specs.Indexes.{IsIndexed, listed as listed_in};
+ghost use Rattle.saturate.specs.States.{HasFingerprints};
 ghost use Rattle.std.specs.Prelude.{min};
 
 use crate::covered::is_covered;
@@ -34,7 +35,8 @@ pub(crate) fn arrival_of(
     state: &State<'_>,
     clause: &Clause,
 ) -> Result<Arrival, NoMemory>
-    requires { IsIndexed (listed_in state.now.listed) state.now.reached }
+    requires kept { HasFingerprints state.now }
+    requires indexed { IsIndexed (listed_in state.now.listed) state.now.reached }
     ensures { IfOk result (λ arrival. spec.IsArrival state.now.reached clause.now arrival) }
 {
     if clause.literals.items().is_empty() {

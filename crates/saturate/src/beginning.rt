@@ -10,7 +10,7 @@ ghost use Rattle.saturate.specs.Indexes.{AreListed, listed as listed_in};
 ghost use Rattle.saturate.specs.States.{IsConsistent};
 
 use crate::fingerprint::Fingerprints;
-use crate::index::{Index, list};
+use crate::index::{Index, list, rarest_key};
 use crate::inputs::Inputs;
 use crate::limits::Mode;
 use crate::reached::{Reached, State, weight};
@@ -88,7 +88,7 @@ fn input_fingerprints(alloc: Global, inputs: &Inputs<'_>) -> Result<Listed<Finge
     Ok(list)
 }
 
-/// All inputs by the keys of their first literals, of which these are the fingerprints.
+/// All inputs, which have these fingerprints, each by the key of one of its literals.
 fn input_index(
     alloc: Global,
     inputs: &Inputs<'_>,
@@ -100,12 +100,8 @@ fn input_index(
 {
     let mut index = HashMap::new(alloc);
     for number in 0..inputs.count() {
-        list(
-            alloc,
-            &mut index,
-            fingerprints[number].first.key(),
-            number as u32,
-        )?;
+        let key = rarest_key(&index, &fingerprints[number]);
+        list(alloc, &mut index, key, number as u32)?;
     }
     Ok(index)
 }

@@ -2,13 +2,12 @@
 ghost use Rattle.std.specs.Prelude.{◌≡◌, ◌↔◌, IsTrue, IfOk};
 ghost use Rattle.std.specs.List.{list_any};
 ghost use Rattle.saturate.specs.Covered as spec;
-ghost use Rattle.saturate.specs.Fingerprints.{fingerprints as prints_of};
 ghost use Rattle.saturate.specs.Runs.{clauses, IsCovered};
 ghost use Rattle.saturate.specs.Indexes.{IsIndexed, listed as listed_in};
 ghost use Rattle.saturate.specs.States.{HasFingerprints};
 
 use crate::fingerprint::Fingerprints;
-use crate::lookup::{is_under, subsumes_at};
+use crate::lookup::{is_subsumed, is_under};
 use crate::reached::State;
 use kif_tree::{Clause, Literal, forms_equal};
 use sigma_base::NoMemory;
@@ -38,28 +37,6 @@ fn has_opposite(literal: &Literal, literals: &[Literal]) -> bool
     false
 }
 
-/// One of the clauses with these numbers subsumes the clause, which has these fingerprints.
-fn is_subsumed(
-    alloc: Global,
-    state: &State<'_>,
-    numbers: &[u32],
-    clause: &Clause,
-    prints: &Fingerprints,
-) -> Result<bool, NoMemory>
-    requires kept { HasFingerprints state.now }
-    requires prints { prints.now ≡ prints_of clause.now }
-    ensures { IfOk result (λ answer. IsTrue answer ↔ spec.IsSubsumed (clauses state.now.reached) numbers.now clause.now) }
-{
-    for number in numbers {
-        if state.may_subsume(*number, prints)
-            && subsumes_at(alloc, &state.reached, *number, clause)?
-        {
-            return Ok(true);
-        }
-    }
-    Ok(false)
-}
-
 /// The clause is a tautology, or one of the clauses with these numbers subsumes it.
 pub(crate) fn is_needless(
     alloc: Global,
@@ -83,12 +60,13 @@ pub(crate) fn is_covered(
     state: &State<'_>,
     clause: &Clause,
 ) -> Result<bool, NoMemory>
-    requires { IsIndexed (listed_in state.now.listed) state.now.reached }
+    requires kept { HasFingerprints state.now }
+    requires indexed { IsIndexed (listed_in state.now.listed) state.now.reached }
     ensures { IfOk result (λ answer. IsTrue answer ↔ IsCovered state.now.reached clause.now) }
 {
     if is_tautology(clause) {
         return Ok(true);
     }
     let prints = Fingerprints::of(alloc, clause)?;
-    is_under(alloc, &state.reached, &state.listed, clause, &prints)
+    is_under(alloc, state, clause, &prints)
 }

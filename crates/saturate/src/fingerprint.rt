@@ -119,7 +119,7 @@ impl Fingerprint {
         Fingerprint::of_parts(literal.positive, parts_of(&literal.atom))
     }
 
-    /// The key under which clauses stand whose first literal has this fingerprint.
+    /// The key under which clauses may stand that have a literal with this fingerprint.
     pub(crate) fn key(&self) -> u64
         requires codes { HasCodes self.now }
         ensures { result ≡ key_of self.now }
@@ -159,6 +159,13 @@ impl Fingerprint {
             }
         }
         false
+    }
+
+    /// Where it is false, a literal with this fingerprint becomes none of a clause with those.
+    fn may_be_in(&self, others: &Fingerprints) -> bool
+        ensures { result ≡ spec.may_be_in self.now others.now }
+    {
+        self.may_become(&others.first) || self.may_become_any(others.others.items())
     }
 
     fn may_clash_with_any(&self, others: &[Fingerprint]) -> bool
@@ -229,7 +236,15 @@ impl Fingerprints {
     pub(crate) fn may_subsume(&self, others: &Fingerprints) -> bool
         ensures { result ≡ spec.may_subsume self.now others.now }
     {
-        self.first.may_become(&others.first) || self.first.may_become_any(others.others.items())
+        if !self.first.may_be_in(others) {
+            return false;
+        }
+        for print in self.others.items() {
+            if !print.may_be_in(others) {
+                return false;
+            }
+        }
+        true
     }
 
     /// Where it is false, nothing follows from clauses with these fingerprints.

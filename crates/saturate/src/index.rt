@@ -1,8 +1,10 @@
-//! Known clauses by the fingerprints of their first literals, so that of many only those are looked at that may subsume a new one.
-ghost use Rattle.std.specs.Prelude.{◌≡◌, ◌<◌, IfOk, OnOk};
+//! Known clauses, each by the fingerprint of one of its literals, so that of many only those are looked at that may subsume a new one.
+ghost use Rattle.std.specs.Prelude.{◌≡◌, ◌∷◌, ◌<◌, map, IfOk, OnOk};
+ghost use Rattle.sigma_base.specs.Lists.{Each};
+ghost use Rattle.calculus.specs.Answers.{Among};
 ghost use Rattle.saturate.specs.Indexes as spec;
 
-use crate::fingerprint::mixed;
+use crate::fingerprint::{Fingerprints, mixed};
 use sigma_base::{Listed, NoMemory};
 use std::alloc::Global;
 use std::collections::HashMap;
@@ -29,6 +31,25 @@ pub(crate) fn listed(index: &Index, key: u64) -> &[u32]
         Some(numbers) => numbers.items(),
         None => &[],
     }
+}
+
+/// Of the keys of these literals the one under which the fewest numbers stand.
+pub(crate) fn rarest_key(index: &Index, prints: &Fingerprints) -> u64
+    requires first { spec.HasCodes prints.now.first }
+    requires others { Each spec.HasCodes prints.now.others }
+    ensures { Among result (map spec.key_of (prints.now.first ∷ prints.now.others)) }
+{
+    let mut rarest = prints.first.key();
+    let mut fewest = listed(index, rarest).len();
+    for print in prints.others.items() {
+        let key = print.key();
+        let count = listed(index, key).len();
+        if count < fewest {
+            rarest = key;
+            fewest = count;
+        }
+    }
+    rarest
 }
 
 /// Adds the number last under the key.

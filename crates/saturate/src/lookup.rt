@@ -5,17 +5,18 @@ ghost use Rattle.saturate.specs.Covered.{IsSubsumed};
 ghost use Rattle.saturate.specs.Fingerprints.{fingerprints as prints_of, fingerprint_of};
 ghost use Rattle.saturate.specs.Indexes as spec;
 ghost use Rattle.saturate.specs.Runs.{clauses};
+ghost use Rattle.saturate.specs.States.{HasFingerprints};
 
 use crate::fingerprint::{Fingerprint, Fingerprints};
-use crate::index::{Index, key, listed};
-use crate::reached::Reached;
+use crate::index::{key, listed};
+use crate::reached::{Reached, State};
 use kif_tree::Clause;
 use sigma_base::NoMemory;
 use std::alloc::Global;
 use unify::subsumes;
 
 /// The clause of that number subsumes the clause.
-pub(crate) fn subsumes_at(
+fn subsumes_at(
     alloc: Global,
     reached: &Reached<'_>,
     number: u32,
@@ -29,17 +30,22 @@ pub(crate) fn subsumes_at(
     }
 }
 
-/// One of the clauses with these numbers subsumes the clause.
-fn any_subsumes(
+/// One of the clauses with these numbers subsumes the clause, which has these fingerprints.
+pub(crate) fn is_subsumed(
     alloc: Global,
-    reached: &Reached<'_>,
+    state: &State<'_>,
     numbers: &[u32],
     clause: &Clause,
+    prints: &Fingerprints,
 ) -> Result<bool, NoMemory>
-    ensures { IfOk result (λ answer. IsTrue answer ↔ IsSubsumed (clauses reached.now) numbers.now clause.now) }
+    requires kept { HasFingerprints state.now }
+    requires prints { prints.now ≡ prints_of clause.now }
+    ensures { IfOk result (λ answer. IsTrue answer ↔ IsSubsumed (clauses state.now.reached) numbers.now clause.now) }
 {
     for number in numbers {
-        if subsumes_at(alloc, reached, *number, clause)? {
+        if state.may_subsume(*number, prints)
+            && subsumes_at(alloc, &state.reached, *number, clause)?
+        {
             return Ok(true);
         }
     }
@@ -49,30 +55,34 @@ fn any_subsumes(
 /// One of the clauses under the key of the fingerprint subsumes the clause.
 fn under(
     alloc: Global,
-    reached: &Reached<'_>,
-    index: &Index,
+    state: &State<'_>,
     clause: &Clause,
+    prints: &Fingerprints,
     print: Fingerprint,
 ) -> Result<bool, NoMemory>
-    requires { spec.HasCodes print }
-    ensures { IfOk result (λ answer. IsTrue answer ↔ spec.Under (spec.listed index.now) (clauses reached.now) clause.now print.positive print.head print.first print.second) }
+    requires kept { HasFingerprints state.now }
+    requires prints { prints.now ≡ prints_of clause.now }
+    requires codes { spec.HasCodes print }
+    ensures { IfOk result (λ answer. IsTrue answer ↔ spec.Under (spec.listed state.now.listed) (clauses state.now.reached) clause.now print.positive print.head print.first print.second) }
 {
     let place = key(print.positive, print.head, print.first, print.second);
-    any_subsumes(alloc, reached, listed(index, place), clause)
+    is_subsumed(alloc, state, listed(&state.listed, place), clause, prints)
 }
 
 /// One of the clauses with that sign, head and first argument, and with that second argument or no code of one, subsumes the clause.
 fn under_second(
     alloc: Global,
-    reached: &Reached<'_>,
-    index: &Index,
+    state: &State<'_>,
     clause: &Clause,
+    prints: &Fingerprints,
     print: Fingerprint,
 ) -> Result<bool, NoMemory>
-    requires { spec.HasCodes print }
-    ensures { IfOk result (λ answer. IsTrue answer ↔ spec.UnderSecond (spec.listed index.now) (clauses reached.now) clause.now print.positive print.head print.first print.second) }
+    requires kept { HasFingerprints state.now }
+    requires prints { prints.now ≡ prints_of clause.now }
+    requires codes { spec.HasCodes print }
+    ensures { IfOk result (λ answer. IsTrue answer ↔ spec.UnderSecond (spec.listed state.now.listed) (clauses state.now.reached) clause.now print.positive print.head print.first print.second) }
 {
-    if under(alloc, reached, index, clause, print)? {
+    if under(alloc, state, clause, prints, print)? {
         return Ok(true);
     }
     if print.second == 0 {
@@ -80,9 +90,9 @@ fn under_second(
     }
     under(
         alloc,
-        reached,
-        index,
+        state,
         clause,
+        prints,
         Fingerprint { second: 0, ..print },
     )
 }
@@ -90,15 +100,17 @@ fn under_second(
 /// The same where the first argument may have no code either.
 fn under_first(
     alloc: Global,
-    reached: &Reached<'_>,
-    index: &Index,
+    state: &State<'_>,
     clause: &Clause,
+    prints: &Fingerprints,
     print: Fingerprint,
 ) -> Result<bool, NoMemory>
-    requires { spec.HasCodes print }
-    ensures { IfOk result (λ answer. IsTrue answer ↔ spec.UnderFirst (spec.listed index.now) (clauses reached.now) clause.now print.positive print.head print.first print.second) }
+    requires kept { HasFingerprints state.now }
+    requires prints { prints.now ≡ prints_of clause.now }
+    requires codes { spec.HasCodes print }
+    ensures { IfOk result (λ answer. IsTrue answer ↔ spec.UnderFirst (spec.listed state.now.listed) (clauses state.now.reached) clause.now print.positive print.head print.first print.second) }
 {
-    if under_second(alloc, reached, index, clause, print)? {
+    if under_second(alloc, state, clause, prints, print)? {
         return Ok(true);
     }
     if print.first == 0 {
@@ -106,9 +118,9 @@ fn under_first(
     }
     under_second(
         alloc,
-        reached,
-        index,
+        state,
         clause,
+        prints,
         Fingerprint { first: 0, ..print },
     )
 }
@@ -116,15 +128,17 @@ fn under_first(
 /// The same where the head may have no code either.
 fn under_head(
     alloc: Global,
-    reached: &Reached<'_>,
-    index: &Index,
+    state: &State<'_>,
     clause: &Clause,
+    prints: &Fingerprints,
     print: Fingerprint,
 ) -> Result<bool, NoMemory>
-    requires { spec.HasCodes print }
-    ensures { IfOk result (λ answer. IsTrue answer ↔ spec.UnderPrint (spec.listed index.now) (clauses reached.now) clause.now print) }
+    requires kept { HasFingerprints state.now }
+    requires prints { prints.now ≡ prints_of clause.now }
+    requires codes { spec.HasCodes print }
+    ensures { IfOk result (λ answer. IsTrue answer ↔ spec.UnderPrint (spec.listed state.now.listed) (clauses state.now.reached) clause.now print) }
 {
-    if under_first(alloc, reached, index, clause, print)? {
+    if under_first(alloc, state, clause, prints, print)? {
         return Ok(true);
     }
     if print.head == 0 {
@@ -132,9 +146,9 @@ fn under_head(
     }
     under_first(
         alloc,
-        reached,
-        index,
+        state,
         clause,
+        prints,
         Fingerprint { head: 0, ..print },
     )
 }
@@ -142,16 +156,18 @@ fn under_head(
 /// The same for one of the fingerprints.
 fn under_any(
     alloc: Global,
-    reached: &Reached<'_>,
-    index: &Index,
+    state: &State<'_>,
     clause: &Clause,
-    prints: &[Fingerprint],
+    prints: &Fingerprints,
+    looked_up: &[Fingerprint],
 ) -> Result<bool, NoMemory>
-    requires { Each spec.HasCodes prints.now }
-    ensures { IfOk result (λ answer. IsTrue answer ↔ spec.UnderAny (spec.listed index.now) (clauses reached.now) clause.now prints.now) }
+    requires kept { HasFingerprints state.now }
+    requires prints { prints.now ≡ prints_of clause.now }
+    requires codes { Each spec.HasCodes looked_up.now }
+    ensures { IfOk result (λ answer. IsTrue answer ↔ spec.UnderAny (spec.listed state.now.listed) (clauses state.now.reached) clause.now looked_up.now) }
 {
-    for print in prints {
-        if under_head(alloc, reached, index, clause, *print)? {
+    for print in looked_up {
+        if under_head(alloc, state, clause, prints, *print)? {
             return Ok(true);
         }
     }
@@ -174,22 +190,22 @@ fn without_parts(positive: bool) -> Fingerprint
 /// One of the clauses that are looked up for the clause, which has these fingerprints, subsumes it.
 pub(crate) fn is_under(
     alloc: Global,
-    reached: &Reached<'_>,
-    index: &Index,
+    state: &State<'_>,
     clause: &Clause,
     prints: &Fingerprints,
 ) -> Result<bool, NoMemory>
-    requires { prints.now ≡ prints_of clause.now }
-    ensures { IfOk result (λ answer. IsTrue answer ↔ spec.UnderClause (spec.listed index.now) (clauses reached.now) clause.now) }
+    requires kept { HasFingerprints state.now }
+    requires prints { prints.now ≡ prints_of clause.now }
+    ensures { IfOk result (λ answer. IsTrue answer ↔ spec.UnderClause (spec.listed state.now.listed) (clauses state.now.reached) clause.now) }
 {
-    if under(alloc, reached, index, clause, without_parts(true))? {
+    if under(alloc, state, clause, prints, without_parts(true))? {
         return Ok(true);
     }
-    if under(alloc, reached, index, clause, without_parts(false))? {
+    if under(alloc, state, clause, prints, without_parts(false))? {
         return Ok(true);
     }
-    if under_head(alloc, reached, index, clause, prints.first)? {
+    if under_head(alloc, state, clause, prints, prints.first)? {
         return Ok(true);
     }
-    under_any(alloc, reached, index, clause, prints.others.items())
+    under_any(alloc, state, clause, prints, prints.others.items())
 }

@@ -7,14 +7,14 @@ ghost use Rattle.unify.specs.Subsumption.{Subsumes};
 ghost use Rattle.infer.specs.Conclusions.{AreConclusions, clause_at};
 ghost use Rattle.infer.specs.declared.conclusion.Conclusion.{Conclusion};
 ghost use Rattle.saturate.specs.Runs as spec;
-ghost use Rattle.saturate.specs.Fingerprints.{fingerprints as prints_of, first_of};
-ghost use Rattle.saturate.specs.Indexes.{IsListed, key_of, listed as listed_in};
+ghost use Rattle.saturate.specs.Fingerprints.{fingerprints as prints_of};
+ghost use Rattle.saturate.specs.Indexes.{IsListedUnderOne, listed as listed_in};
 ghost use Rattle.saturate.specs.States.{HasWeights, HasFingerprints};
 ghost use Rattle.std.specs.Prelude.{min, sum, map};
 ghost use Rattle.kif_tree.specs.Terms.{symbols as symbols_in};
 
 use crate::fingerprint::Fingerprints;
-use crate::index::{Index, list};
+use crate::index::{Index, list, rarest_key};
 use crate::inputs::Inputs;
 use calculus::Step;
 use infer::Conclusion;
@@ -77,7 +77,7 @@ pub(crate) struct State<'a> {
     pub weights: Listed<u64>,
     /// The fingerprints of the clause of each step.
     pub fingerprints: Listed<Fingerprints>,
-    /// The numbers of all known clauses, and of some that were dropped, by the keys of their first literals.
+    /// The numbers of all known clauses, and of some that were dropped, each by the key of one of its literals.
     pub listed: Index,
     /// How many derived clauses are processed, wait or are aside.
     pub kept: usize,
@@ -118,18 +118,18 @@ impl<'a> State<'a> {
         Ok(number)
     }
 
-    /// Lists the clause by the key of its first literal.
+    /// Lists the clause by the key of that of its literals under which the fewest clauses stand.
     pub fn list(&mut self, alloc: Global, number: u32) -> Result<(), NoMemory>
         requires number { number < length (spec.clauses self.old.reached) }
         requires fingerprints { HasFingerprints self.old }
-        ensures listed { OnOk result (IsListed (listed_in self.old.listed) (listed_in self.new.listed) (key_of (first_of (clause_at (spec.clauses self.old.reached) number))) number) }
+        ensures listed { OnOk result (IsListedUnderOne (listed_in self.old.listed) (listed_in self.new.listed) (clause_at (spec.clauses self.old.reached) number) number) }
         ensures reached { OnOk result (self.new.reached ≡ self.old.reached) }
         ensures weights { OnOk result (self.new.weights ≡ self.old.weights) }
         ensures fingerprints { OnOk result (self.new.fingerprints ≡ self.old.fingerprints) }
         ensures kept { OnOk result (self.new.kept ≡ self.old.kept) }
     {
-        let first = self.fingerprints.items()[number as usize].first;
-        list(alloc, &mut self.listed, first.key(), number)
+        let key = rarest_key(&self.listed, &self.fingerprints.items()[number as usize]);
+        list(alloc, &mut self.listed, key, number)
     }
 
     /// How many symbols the clause has.

@@ -19,7 +19,7 @@ returns c =
     ] in
     ok_map c.is_under.result _ _
     (λ (answer : Bool) (under : IsTrue answer ↔ UnderClause listing (clauses r) clause). (
-      λ h. found_covers listing r clause c.requires (under.0 h),
-      λ h. under.1 (only (covered_found listing r clause c.requires h)),
+      λ h. found_covers listing r clause c.requires.indexed (under.0 h),
+      λ h. under.1 (only (covered_found listing r clause c.requires.indexed h)),
     ))
     c.is_under.ensures

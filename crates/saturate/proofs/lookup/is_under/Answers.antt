@@ -10,30 +10,30 @@ use Rattle.saturate.proofs.IndexLaws.{first_has_codes, others_have_codes}
 use Rattle.saturate.proofs.LookupLaws.{second_decides}
 use Rattle.saturate.proofs.lookup.is_under.Goals as goal
 
-pub under_head-requires : goal.under_head-requires
-under_head-requires c = subst (λ (p : Fingerprint). HasCodes p) (sym (ap (λ (p : Fingerprints). p.first) c.requires)) (first_has_codes c.args.clause.now)
+pub under_head-requires-clause-codes : goal.under_head-requires-clause-codes
+under_head-requires-clause-codes c = subst (λ (p : Fingerprint). HasCodes p) (sym (ap (λ (p : Fingerprints). p.first) c.requires.prints)) (first_has_codes c.args.clause.now)
 
-pub under_any-requires : goal.under_any-requires
-under_any-requires c =
-    subst (λ (ps : List Fingerprint). Each HasCodes ps) (sym (c.items.ensures ∙ ap (λ (p : Fingerprints). p.others) c.requires)) (others_have_codes c.args.clause.now)
+pub under_any-requires-clause-codes : goal.under_any-requires-clause-codes
+under_any-requires-clause-codes c =
+    subst (λ (ps : List Fingerprint). Each HasCodes ps) (sym (c.items.ensures ∙ ap (λ (p : Fingerprints). p.others) c.requires.prints)) (others_have_codes c.args.clause.now)
 
 pub returns-then-branch-3 : goal.returns-then-branch-3
 returns-then-branch-3 c =
-    let listing = listed c.args.index.now in
-    let all = clauses c.args.reached.now in
+    let listing = listed c.args.state.now.listed in
+    let all = clauses c.args.state.now.reached in
     let clause = c.args.clause.now in (
-      λ _. inr (inr (inl (subst (λ (p : Fingerprint). UnderPrint listing all clause p) (ap (λ (p : Fingerprints). p.first) c.requires)
+      λ _. inr (inr (inl (subst (λ (p : Fingerprint). UnderPrint listing all clause p) (ap (λ (p : Fingerprints). p.first) c.requires.prints)
           (c.in_ok-under_head.ensures.0 c.if-branch-3.true)))),
       λ _. refl,
     )
 
 pub returns : goal.returns
 returns c =
-    let listing = listed c.args.index.now in
-    let all = clauses c.args.reached.now in
+    let listing = listed c.args.state.now.listed in
+    let all = clauses c.args.state.now.reached in
     let clause = c.args.clause.now in
-    let first : c.args.prints.now.first ≡ first_of clause = ap (λ (p : Fingerprints). p.first) c.requires in
-    let others : c.items.result.now ≡ others_of clause = c.items.ensures ∙ ap (λ (p : Fingerprints). p.others) c.requires in
+    let first : c.args.prints.now.first ≡ first_of clause = ap (λ (p : Fingerprints). p.first) c.requires.prints in
+    let others : c.items.result.now ≡ others_of clause = c.items.ensures ∙ ap (λ (p : Fingerprints). p.others) c.requires.prints in
     ok_map c.under_any.result _ _
     (λ (answer : Bool) last.
     second_decides c.in_ok-under.field-0 (subst (λ (p : Fingerprint). IsTrue c.in_ok-under.field-0 ↔ Under listing all clause p.positive p.head p.first p.second) c.without_parts.ensures c.in_ok-under.ensures) c.if-branch.false answer

@@ -10,12 +10,12 @@ past = record { positive = false; parts = 0; head = 0; first = 0; second = 0 }
 
 pub returns-then-branch : goal.returns-then-branch
 returns-then-branch c = (
-  λ _. any_at (listed c.args.index.now) (clauses c.args.reached.now) c.args.clause.now c.args.prints.now c.loop-print.print-index past c.loop-print-test.true
+  λ _. any_at (listed c.args.state.now.listed) (clauses c.args.state.now.reached) c.args.clause.now c.args.looked_up.now c.loop-print.print-index past c.loop-print-test.true
       (c.in_ok-under_head.ensures.0 c.if-branch.true),
   λ _. refl,
 )
 
 pub loop-print-preserved : goal.loop-print-preserved
 loop-print-preserved c =
-    none_yet (listed c.args.index.now) (clauses c.args.reached.now) c.args.clause.now c.args.prints.now c.loop-print.print-index past c.loop-print-test.true c.loop-print.invariant
+    none_yet (listed c.args.state.now.listed) (clauses c.args.state.now.reached) c.args.clause.now c.args.looked_up.now c.loop-print.print-index past c.loop-print-test.true c.loop-print.invariant
     (λ h. let no_way : true ≡ false = sym (c.in_ok-under_head.ensures.1 h) ∙ c.if-branch.false in absurd (cc))

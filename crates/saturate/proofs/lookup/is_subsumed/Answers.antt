@@ -1,8 +1,8 @@
 use Rattle.std.proofs.Common.{◌≡◌, true, false, refl, sym, ◌∙◌}
 use Rattle.saturate.specs.Runs.{clauses}
 use Rattle.saturate.proofs.SubsumedLaws.{subsumed_at, not_yet, unless_one}
-use Rattle.saturate.proofs.covered.is_subsumed.Goals as goal
-use Rattle.saturate.proofs.covered.is_subsumed.Goals.{else-may_subsume-via-then-may_subsume+in_ok-subsumes_at+else-branch, else-may_subsume-via-else-may_subsume}
+use Rattle.saturate.proofs.lookup.is_subsumed.Goals as goal
+use Rattle.saturate.proofs.lookup.is_subsumed.Goals.{else-may_subsume-via-then-may_subsume+in_ok-subsumes_at+else-branch, else-may_subsume-via-else-may_subsume}
 
 pub returns-then-branch : goal.returns-then-branch
 returns-then-branch c = (
