@@ -1,7 +1,8 @@
 -- What fingerprints leave out: clauses that don't subsume each other, and clauses from which nothing follows.
 use Rattle.std.proofs.Common.{◌≡◌, ◌⊎◌, inl, inr, ◌<◌, ℕ, zero, suc, nat_eq, List, [], ◌∷◌, map, length, get_or, Bool, true, false, not, ◌&&◌, ◌||◌, if◌then◌else◌, Option, Some, None, is_some, refl, sym, ap, ap₂, ◌∙◌, subst, eq-eqb, arith}
+use Rattle.std.specs.Int.Bits.{bit_and}
 use Rattle.std.specs.List.{list_any, list_all}
-use Rattle.std.proofs.lemmas.Bool.{or_parts}
+use Rattle.std.proofs.lemmas.Bool.{eqb-true, or_parts}
 use Rattle.std.proofs.lemmas.List.{length-map}
 use Rattle.sigma_base.specs.Lists.{Each, each_append, each_map}
 use Rattle.kif_tree.specs.declared.form.Form.{Form}
@@ -29,6 +30,7 @@ use Rattle.infer.proofs.ConclusionLaws.{IsNoEquality, both_ways, nothing_by_lite
 use Rattle.saturate.specs.declared.fingerprint.Fingerprint.{Fingerprint}
 use Rattle.saturate.specs.Inputs.{is_equality}
 use Rattle.saturate.specs.Fingerprints.{code, part_code, fits, agree, fingerprint, may_become, may_clash, first_of, others_of, has_equation, fingerprints, may_be_in, may_subsume, may_resolve, may_meet}
+use Rattle.saturate.proofs.BitLaws.{first_no_equation, second_no_equation, no_clashes}
 use Rattle.saturate.proofs.CodeLaws.{kept}
 
 -- ---- codes
@@ -240,9 +242,10 @@ nothing_rewritten clauses source from target into at none =
 
 -- ---- both
 
-apart : (given partner : Literals) → may_meet (fingerprints given) (fingerprints partner) ≡ false
+apart_closely : (given partner : Literals) → (has_equation given || (has_equation partner || (may_resolve (first_of given) (fingerprints partner)
+    || list_any (λ print. may_resolve print (fingerprints partner)) (others_of given)))) ≡ false
     → (has_equation given ≡ false) × (has_equation partner ≡ false) × Each (IsApartFrom partner) given
-apart given partner none =
+apart_closely given partner none =
     let first = or_parts (has_equation given) _ none in
     let second = or_parts (has_equation partner) _ first.1 in
     (first.0, second.0, all given second.1)
@@ -258,6 +261,21 @@ apart given partner none =
           each_map (λ other. may_resolve (fingerprint other) (fingerprints partner) ≡ false) (IsApartFrom partner) (apart_from partner) literals
               (none_passes (λ print. may_resolve print (fingerprints partner)) fingerprint literals parts.1),
         )
+
+apart : (given partner : Literals) → may_meet (fingerprints given) (fingerprints partner) ≡ false
+    → (has_equation given ≡ false) × (has_equation partner ≡ false) × Each (IsApartFrom partner) given
+apart given partner none = go (nat_eq (bit_and (fingerprints given).wanted (fingerprints partner).marks) 0) refl none
+  where
+    closely : Bool
+    closely = has_equation given || (has_equation partner || (may_resolve (first_of given) (fingerprints partner)
+        || list_any (λ print. may_resolve print (fingerprints partner)) (others_of given)))
+
+    go : (b : Bool) → nat_eq (bit_and (fingerprints given).wanted (fingerprints partner).marks) 0 ≡ b → (not b && closely) ≡ false
+        → (has_equation given ≡ false) × (has_equation partner ≡ false) × Each (IsApartFrom partner) given
+    go true e h =
+        let nothing = eqb-true (bit_and (fingerprints given).wanted (fingerprints partner).marks) 0 e in
+        (first_no_equation given partner nothing, second_no_equation given partner nothing, no_clashes given partner nothing)
+    go false e h = apart_closely given partner h
 
 pub nothing_meets : (given partner : Literals) → may_meet (fingerprints given) (fingerprints partner) ≡ false → (same : Bool)
     → AreConclusions given partner same []

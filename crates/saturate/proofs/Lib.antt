@@ -1,6 +1,7 @@
 pub mod AccountLaws
 pub mod AlikeLaws
 pub mod BeginningLaws
+pub mod BitLaws
 pub mod ChoiceLaws
 pub mod CodeLaws
 pub mod ContradictionLaws

@@ -32,6 +32,10 @@ pub(crate) struct Fingerprints {
     pub(crate) others: Listed<Fingerprint>,
     /// A positive literal is an equality.
     pub(crate) equation: bool,
+    /// A bit for the sign and the head of each literal, or all.
+    pub(crate) marks: u64,
+    /// The bits of the literals that these could be resolved with, or all.
+    pub(crate) wanted: u64,
 }
 
 pub(crate) fn mixed(code: u64, next: u64) -> u64
@@ -220,15 +224,53 @@ fn others_of(alloc: Global, literals: &[Literal]) -> Result<Listed<Fingerprint>,
     Ok(prints)
 }
 
+/// A bit for the sign and the head, or all bits where the head isn't known.
+fn mark(positive: bool, head: u64) -> u64
+    ensures { result ≡ spec.mark positive head }
+{
+    if head == 0 {
+        return u64::MAX;
+    }
+    let sign = if positive { 1 } else { 0 };
+    1 << (head % 32 * 2 + sign)
+}
+
+fn mark_of(own: bool, print: &Fingerprint) -> u64
+    ensures { result ≡ spec.mark_of own print.now }
+{
+    mark(own == print.positive, print.head)
+}
+
+/// The marks of the literals, or those of literals with the other signs.
+fn marks_of(own: bool, equation: bool, first: &Fingerprint, others: &[Fingerprint]) -> u64
+    ensures { result ≡ spec.marks_of own equation first.now others.now }
+{
+    if equation {
+        return u64::MAX;
+    }
+    let mut marks = mark_of(own, first);
+    for print in others {
+        marks |= mark_of(own, print);
+    }
+    marks
+}
+
 impl Fingerprints {
     pub(crate) fn of(alloc: Global, clause: &Clause) -> Result<Fingerprints, NoMemory>
         ensures { IfOk result (λ prints. prints ≡ spec.fingerprints clause.now) }
     {
         let literals = clause.literals.items();
+        let first = first_of(literals);
+        let others = others_of(alloc, literals)?;
+        let equation = has_equation(literals);
+        let marks = marks_of(true, equation, &first, others.items());
+        let wanted = marks_of(false, equation, &first, others.items());
         Ok(Fingerprints {
-            first: first_of(literals),
-            others: others_of(alloc, literals)?,
-            equation: has_equation(literals),
+            first,
+            others,
+            equation,
+            marks,
+            wanted,
         })
     }
 
@@ -251,6 +293,9 @@ impl Fingerprints {
     pub(crate) fn may_meet(&self, others: &Fingerprints) -> bool
         ensures { result ≡ spec.may_meet self.now others.now }
     {
+        if self.wanted & others.marks == 0 {
+            return false;
+        }
         if self.equation || others.equation || self.first.may_resolve(others) {
             return true;
         }
