@@ -39,7 +39,7 @@ fn renamed(alloc: Global, clause: Clause) -> Result<Clause, NoMemory>
     Ok(Clause { literals })
 }
 
-/// Whether some literal equals an earlier one. It takes no memory.
+/// Whether some literal may equal an earlier one: where not, no literal stands twice. It takes no memory.
 fn has_repeats(literals: &[Literal]) -> bool
     ensures { result ≡ false → spec.without_repeats literals.now ≡ literals.now }
 {

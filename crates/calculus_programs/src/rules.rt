@@ -40,7 +40,7 @@ fn may_resolve(
     meet(alloc, &left.atom, left_subst, &right.atom, right_subst)
 }
 
-/// Adds the literals other than the numbered one under the substitution at the end.
+/// Adds the literals other than the numbered one under the substitution at the end. Where memory wants, nothing is said of what was added.
 pub fn append_others(
     alloc: Global,
     out: &mut Listed<Literal>,

@@ -98,7 +98,7 @@ fn new_name(alloc: Global, number: u64) -> Result<Text, NoMemory>
     Ok(name)
 }
 
-/// Adds the literals under the substitution at the end.
+/// Adds the literals under the substitution at the end. Where memory wants, nothing is said of what was added.
 pub fn append_filled(
     alloc: Global,
     out: &mut Listed<Literal>,

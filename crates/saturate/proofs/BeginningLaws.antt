@@ -1,5 +1,5 @@
 -- Numbers in order, and the beginning of a search.
-use Rattle.std.proofs.Common.{◌≡◌, ℕ, zero, suc, ◌+◌, ◌<◌, List, [], ◌∷◌, ◌++◌, map, filter, take, length, nat_le, Bool, true, false, if◌then◌else◌, Some, None, refl, sym, ap, ◌∙◌, subst, arith}
+use Rattle.std.proofs.Common.{◌≡◌, ℕ, zero, suc, ◌+◌, ◌<◌, List, [], ◌∷◌, ◌++◌, map, filter, take, length, nat_le, Bool, true, false, if◌then◌else◌, Some, None, refl, sym, ap, ap₂, ◌∙◌, subst, arith}
 use Rattle.std.proofs.lemmas.List.{length-map, map-append, take_more, append-nil}
 use Rattle.std.proofs.lemmas.List.Elements.{filter-append}
 use Rattle.std.proofs.lemmas.Bool.{lt-leb}
@@ -18,11 +18,12 @@ use Rattle.saturate.specs.declared.limits.Mode.{Mode}
 use Rattle.saturate.specs.declared.limits.Mode.TheVariants.{Support, Full}
 use Rattle.saturate.specs.declared.reached.Reached.{Reached}
 use Rattle.saturate.specs.declared.reached.State.{State}
-use Rattle.saturate.specs.Fingerprints.{fingerprints}
+use Rattle.saturate.specs.Fingerprints.{fingerprints, marks, tabled, tabled_with}
 use Rattle.saturate.specs.Indexes.{Listing, AreListed, IsIndexed, IsListedUnderOne, listed}
 use Rattle.saturate.specs.Inputs.{is_query_number}
 use Rattle.saturate.specs.Runs.{clauses, numbers_from, numbers_of, first_processed, first_waiting, beginning, weight, kept_count}
 use Rattle.saturate.specs.States.{IsConsistent}
+use Rattle.saturate.proofs.TableLaws.{table_of}
 use Rattle.saturate.proofs.IndexStepLaws.{indexed_begun, input_listed, input_at}
 
 numbers_after : (first count : ℕ) → numbers_from first (suc count) ≡ numbers_from first count ++ (first + count) ∷ []
@@ -77,6 +78,11 @@ clauses_more f inputs number input at =
     ∙ ap (map f) (map-append (λ (i : InputClause). i.clause) (take number inputs) (input ∷ []))
     ∙ map-append f (clauses_of (take number inputs)) (input.clause ∷ [])
 
+pub tabled_inputs : (inputs : List InputClause) (number : ℕ) (input : InputClause) → nth inputs number ≡ Some input
+    → tabled (clauses_of (take (number + 1) inputs)) ≡ tabled_with (tabled (clauses_of (take number inputs))) input.clause
+tabled_inputs inputs number input at =
+    ap₂ table_of (clauses_more fingerprints inputs number input at) (clauses_more marks inputs number input at)
+
 -- one input more is listed
 pub input_next : (inputs : List InputClause) (old new : Listing) (number : ℕ) → AreListed inputs old number → number < length inputs
     → IsListedUnderOne old new (clause_at (clauses_of inputs) number) number → AreListed inputs new (number + 1)
@@ -117,7 +123,7 @@ none_derived inputs (n ∷ numbers) each =
     ∙ none_derived inputs numbers each.1
 
 pub begins : (inputs : List InputClause) (mode : Mode) (state : State) → state.reached ≡ beginning inputs mode → state.weights ≡ map weight (clauses_of inputs)
-    → state.fingerprints ≡ map fingerprints (clauses_of inputs) → AreListed inputs (listed state.listed) (length inputs) → state.kept ≡ 0 → Each IsPlain (clauses_of inputs) → IsConsistent state
+    → state.fingerprints ≡ tabled (clauses_of inputs) → AreListed inputs (listed state.listed) (length inputs) → state.kept ≡ 0 → Each IsPlain (clauses_of inputs) → IsConsistent state
 begins inputs mode state is weights prints lists kept plain =
     let all : clauses (beginning inputs mode) ≡ clauses_of inputs = append-nil (clauses_of inputs) in
     let counted : length (clauses (beginning inputs mode)) ≡ length inputs = ap length all ∙ length-map inputs (λ (i : InputClause). i.clause) in
@@ -127,7 +133,7 @@ begins inputs mode state is weights prints lists kept plain =
     (each_append (λ n. n < length inputs) (first_waiting inputs mode) [] (waiting_below inputs mode) tt) in
     record {
       weights = weights ∙ sym (ap (λ (r : Reached). map weight (clauses r)) is ∙ ap (map weight) all);
-      fingerprints = prints ∙ sym (ap (λ (r : Reached). map fingerprints (clauses r)) is ∙ ap (map fingerprints) all);
+      fingerprints = prints ∙ sym (ap (λ (r : Reached). tabled (clauses r)) is ∙ ap tabled all);
       indexed = subst (IsIndexed (listed state.listed)) (sym is) (indexed_begun inputs (listed state.listed) mode lists);
       kept = kept ∙ sym (ap kept_count is ∙ ap length (none_derived inputs numbers below));
       steps = ap (λ (r : Reached). length r.steps) is

@@ -12,7 +12,7 @@ use Rattle.kif_tree.specs.Names.{parts_in}
 use Rattle.kif_tree.specs.Clauses.{Literals, same_sign}
 use Rattle.calculus.specs.Answers.{Among}
 use Rattle.calculus.proofs.TruthLaws.{both, false_true}
-use Rattle.saturate.specs.Fingerprints.{part_code, agree, fingerprint, may_clash, first_of, others_of, has_equation, fingerprints, all_marks, mark_place, mark, mark_of, joined, marks_of}
+use Rattle.saturate.specs.Fingerprints.{part_code, agree, fingerprint, may_clash, first_of, others_of, has_equation, fingerprints, marks, all_marks, mark_place, mark, mark_of, joined, marks_of}
 use Rattle.saturate.proofs.ListLaws.{each_of_members}
 
 -- the bit is set
@@ -162,7 +162,7 @@ clash_shared l m clash =
 
 -- ---- clauses whose marks share no bit
 
-module _ (given partner : Literals) (none : bit_and (fingerprints given).wanted (fingerprints partner).marks ≡ 0) where
+module _ (given partner : Literals) (none : bit_and (fingerprints given).wanted (marks partner) ≡ 0) where
   pub first_no_equation : has_equation given ≡ false
   first_no_equation = go (has_equation given) refl
     where
@@ -170,7 +170,7 @@ module _ (given partner : Literals) (none : bit_and (fingerprints given).wanted 
       go false e = refl
       go true e =
           let one = clause_some true (has_equation partner) partner in
-          absurd (shared (fingerprints given).wanted (fingerprints partner).marks one.place
+          absurd (shared (fingerprints given).wanted (marks partner) one.place
           (subst (λ (b : Bool). HasBit (marks_of false b (first_of given) (others_of given)) one.place) (sym e) (all_set one.place one.below)) one.set none)
 
   pub second_no_equation : has_equation partner ≡ false
@@ -180,7 +180,7 @@ module _ (given partner : Literals) (none : bit_and (fingerprints given).wanted 
       go false e = refl
       go true e =
           let one = clause_some false (has_equation given) given in
-          absurd (shared (fingerprints given).wanted (fingerprints partner).marks one.place one.set
+          absurd (shared (fingerprints given).wanted (marks partner) one.place one.set
           (subst (λ (b : Bool). HasBit (marks_of true b (first_of partner) (others_of partner)) one.place) (sym e) (all_set one.place one.below)) none)
 
   pub no_clashes : Each (λ literal. Each (λ other. may_clash (fingerprint literal) (fingerprint other) ≡ false) partner) given
@@ -192,6 +192,6 @@ module _ (given partner : Literals) (none : bit_and (fingerprints given).wanted 
       go l m l_among m_among false e = refl
       go l m l_among m_among true e =
           let share = clash_shared l m e in
-          absurd (shared (fingerprints given).wanted (fingerprints partner).marks share.place
+          absurd (shared (fingerprints given).wanted (marks partner) share.place
           (clause_has false (has_equation given) given l share.place share.below l_among share.first)
           (clause_has true (has_equation partner) partner m share.place share.below m_among share.second) none)

@@ -29,7 +29,7 @@ use Rattle.infer.proofs.ResolveLaws.{resolve_none, one_sign}
 use Rattle.infer.proofs.ConclusionLaws.{IsNoEquality, both_ways, nothing_by_literal}
 use Rattle.saturate.specs.declared.fingerprint.Fingerprint.{Fingerprint}
 use Rattle.saturate.specs.Inputs.{is_equality}
-use Rattle.saturate.specs.Fingerprints.{code, part_code, fits, agree, fingerprint, may_become, may_clash, first_of, others_of, has_equation, fingerprints, may_be_in, may_subsume, may_resolve, may_meet}
+use Rattle.saturate.specs.Fingerprints.{code, part_code, fits, agree, fingerprint, may_become, may_clash, first_of, others_of, has_equation, fingerprints, may_be_in, may_subsume, may_resolve, may_meet, marks, shares_no_mark}
 use Rattle.saturate.proofs.BitLaws.{first_no_equation, second_no_equation, no_clashes}
 use Rattle.saturate.proofs.CodeLaws.{kept}
 
@@ -242,10 +242,10 @@ nothing_rewritten clauses source from target into at none =
 
 -- ---- both
 
-apart_closely : (given partner : Literals) → (has_equation given || (has_equation partner || (may_resolve (first_of given) (fingerprints partner)
+apart : (given partner : Literals) → (has_equation given || (has_equation partner || (may_resolve (first_of given) (fingerprints partner)
     || list_any (λ print. may_resolve print (fingerprints partner)) (others_of given)))) ≡ false
     → (has_equation given ≡ false) × (has_equation partner ≡ false) × Each (IsApartFrom partner) given
-apart_closely given partner none =
+apart given partner none =
     let first = or_parts (has_equation given) _ none in
     let second = or_parts (has_equation partner) _ first.1 in
     (first.0, second.0, all given second.1)
@@ -262,26 +262,10 @@ apart_closely given partner none =
               (none_passes (λ print. may_resolve print (fingerprints partner)) fingerprint literals parts.1),
         )
 
-apart : (given partner : Literals) → may_meet (fingerprints given) (fingerprints partner) ≡ false
-    → (has_equation given ≡ false) × (has_equation partner ≡ false) × Each (IsApartFrom partner) given
-apart given partner none = go (nat_eq (bit_and (fingerprints given).wanted (fingerprints partner).marks) 0) refl none
-  where
-    closely : Bool
-    closely = has_equation given || (has_equation partner || (may_resolve (first_of given) (fingerprints partner)
-        || list_any (λ print. may_resolve print (fingerprints partner)) (others_of given)))
-
-    go : (b : Bool) → nat_eq (bit_and (fingerprints given).wanted (fingerprints partner).marks) 0 ≡ b → (not b && closely) ≡ false
-        → (has_equation given ≡ false) × (has_equation partner ≡ false) × Each (IsApartFrom partner) given
-    go true e h =
-        let nothing = eqb-true (bit_and (fingerprints given).wanted (fingerprints partner).marks) 0 e in
-        (first_no_equation given partner nothing, second_no_equation given partner nothing, no_clashes given partner nothing)
-    go false e h = apart_closely given partner h
-
-pub nothing_meets : (given partner : Literals) → may_meet (fingerprints given) (fingerprints partner) ≡ false → (same : Bool)
-    → AreConclusions given partner same []
-nothing_meets given partner none same =
+nothing_follows : (given partner : Literals) → (has_equation given ≡ false) × (has_equation partner ≡ false) × Each (IsApartFrom partner) given
+    → (same : Bool) → AreConclusions given partner same []
+nothing_follows given partner are same =
     let clauses : List Literals = given ∷ partner ∷ [] in
-    let are = apart given partner none in
     at-nothing clauses (conclusion_sites given partner same)
     (each_append (GivesNothing clauses) (resolutions given partner) _ (nothing_resolved given partner are.2)
     (each_append (GivesNothing clauses) (paramodulations 0 given 1 partner) _ (nothing_rewritten clauses 0 given 1 partner refl are.0) (back same are.1)))
@@ -289,3 +273,13 @@ nothing_meets given partner none same =
     back : (b : Bool) → has_equation partner ≡ false → Each (GivesNothing (given ∷ partner ∷ [])) (if b then [] else paramodulations 1 partner 0 given)
     back true has = tt
     back false has = nothing_rewritten (given ∷ partner ∷ []) 1 partner 0 given refl has
+
+pub nothing_meets : (given partner : Literals) → may_meet (fingerprints given) (fingerprints partner) ≡ false → (same : Bool)
+    → AreConclusions given partner same []
+nothing_meets given partner none = nothing_follows given partner (apart given partner none)
+
+pub nothing_shared : (given partner : Literals) → shares_no_mark (fingerprints given) (marks partner) ≡ true → (same : Bool)
+    → AreConclusions given partner same []
+nothing_shared given partner none =
+    let nothing = eqb-true (bit_and (fingerprints given).wanted (marks partner)) 0 none in
+    nothing_follows given partner (first_no_equation given partner nothing, second_no_equation given partner nothing, no_clashes given partner nothing)

@@ -27,6 +27,7 @@ pub mod StateLaws
 pub mod StepLaws
 pub mod SubsumedLaws
 pub mod SubsumptionLaws
+pub mod TableLaws
 pub mod TurnLaws
 pub mod UnitLaws
 pub mod WayLaws

@@ -17,7 +17,8 @@ use Rattle.infer.specs.Plain.{IsPlain}
 use Rattle.saturate.specs.declared.fingerprint.Fingerprints.{Fingerprints}
 use Rattle.saturate.specs.declared.reached.Reached.{Reached}
 use Rattle.saturate.specs.declared.reached.State.{State}
-use Rattle.saturate.specs.Fingerprints.{fingerprints}
+use Rattle.saturate.specs.declared.table.FingerprintTable.{FingerprintTable}
+use Rattle.saturate.specs.Fingerprints.{fingerprints, marks, tabled}
 use Rattle.saturate.specs.Indexes.{Listing, listed, key_of, HasCodes, IsKeyOf, IsIndexed, IsListedUnderOne}
 use Rattle.saturate.specs.Runs.{clauses, weight, kept_count, is_derived, grown, with_waiting, with_aside, with_found}
 use Rattle.saturate.specs.States.{HasWeights, HasFingerprints, IsConsistent}
@@ -38,10 +39,23 @@ prints_at [] number prints at = absurd (none_some prints at)
 prints_at (clause ∷ all) zero prints at = sym (some_same (fingerprints clause) prints at)
 prints_at (clause ∷ all) (suc number) prints at = prints_at all number prints at
 
-pub prints_listed : (state : State) (list : List Fingerprints) (number : ℕ) (prints : Fingerprints) → HasFingerprints state → list ≡ state.fingerprints
+pub prints_listed : (state : State) (list : List Fingerprints) (number : ℕ) (prints : Fingerprints) → HasFingerprints state → list ≡ state.fingerprints.all
     → number < length list → prints ≡ get_or list number prints → prints ≡ fingerprints (clause_at (clauses state.reached) number)
 prints_listed state list number prints has is below at =
-    prints_at (clauses state.reached) number prints (ap (λ (all : List Fingerprints). nth all number) (sym (is ∙ has)) ∙ nth-some list number prints below at)
+    prints_at (clauses state.reached) number prints (ap (λ (all : List Fingerprints). nth all number) (sym (is ∙ ap (λ (table : FingerprintTable). table.all) has))
+    ∙ nth-some list number prints below at)
+
+-- and so are its marks
+marks_at : (all : List Literals) (number clause_marks : ℕ) → nth (map marks all) number ≡ Some clause_marks → clause_marks ≡ marks (clause_at all number)
+marks_at [] number clause_marks at = absurd (none_some clause_marks at)
+marks_at (clause ∷ all) zero clause_marks at = sym (some_same (marks clause) clause_marks at)
+marks_at (clause ∷ all) (suc number) clause_marks at = marks_at all number clause_marks at
+
+pub marks_listed : (state : State) (list : List ℕ) (number clause_marks : ℕ) → HasFingerprints state → list ≡ state.fingerprints.marks
+    → number < length list → clause_marks ≡ get_or list number clause_marks → clause_marks ≡ marks (clause_at (clauses state.reached) number)
+marks_listed state list number clause_marks has is below at =
+    marks_at (clauses state.reached) number clause_marks (ap (λ (all : List ℕ). nth all number) (sym (is ∙ ap (λ (table : FingerprintTable). table.marks) has))
+    ∙ nth-some list number clause_marks below at)
 
 -- by the fingerprints that stand in order of the clauses
 pub listed_prints : (all : List Literals) (list : List Fingerprints) (number : ℕ) (other : Fingerprints) → list ≡ map fingerprints all → number < length all
@@ -224,7 +238,7 @@ module _ (old new : State) (conclusion : Conclusion) (number : ℕ) (consistent 
     unlisted_consistent =
         consistent_grown old unlisted conclusion consistent (is.reached ∙ added.grows) refl (is.kept ∙ added.kept)
         (is.weights ∙ added.weights ∙ ap (λ (s : Reached). map weight (clauses s)) (sym is.reached))
-        (is.fingerprints ∙ added.fingerprints ∙ ap (λ (s : Reached). map fingerprints (clauses s)) (sym is.reached)) plain
+        (is.fingerprints ∙ added.fingerprints ∙ ap (λ (s : Reached). tabled (clauses s)) (sym is.reached)) plain
 
     unlisted_last : IsLast unlisted number
     unlisted_last = last_grown old unlisted conclusion number consistent (is.reached ∙ added.grows) added.number

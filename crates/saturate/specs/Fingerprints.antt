@@ -1,6 +1,6 @@
 -- Fingerprints: numbers by which it is seen, without a walk through two clauses, that one can't subsume the other, or that nothing
 -- follows from both. No definition of a search speaks of them.
-use Rattle.std.specs.Prelude.{ℕ, ◌+◌, ◌*◌, ◌-◌, ◌^◌, ◌%◌, nat_eq, List, [], ◌∷◌, map, length, Bool, true, false, not, ◌&&◌, ◌||◌, if◌then◌else◌, Option, Some, None}
+use Rattle.std.specs.Prelude.{ℕ, ◌+◌, ◌*◌, ◌-◌, ◌^◌, ◌%◌, nat_eq, List, [], ◌∷◌, ◌++◌, map, length, Bool, true, false, not, ◌&&◌, ◌||◌, if◌then◌else◌, Option, Some, None}
 use Rattle.std.specs.Int.Bits.{bit_and, bit_or}
 use Rattle.std.specs.List.{list_any, list_all}
 use Rattle.kif_tree.specs.declared.form.Form.{Form, fold-Form}
@@ -11,6 +11,7 @@ use Rattle.kif_tree.specs.Clauses.{Literals, same_sign}
 use Rattle.calculus.specs.Rules.{nth}
 use Rattle.saturate.specs.declared.fingerprint.Fingerprint.{Fingerprint}
 use Rattle.saturate.specs.declared.fingerprint.Fingerprints.{Fingerprints}
+use Rattle.saturate.specs.declared.table.FingerprintTable.{FingerprintTable}
 use Rattle.saturate.specs.Inputs.{is_equality}
 
 -- one number more in a code
@@ -120,12 +121,14 @@ joined marks (mark ∷ more) = joined (bit_or marks mark) more
 abbrev pub marks_of : Bool → Bool → Fingerprint → List Fingerprint → ℕ
 marks_of own equation first others = if equation then all_marks else joined (mark_of own first) (map (mark_of own) others)
 
+abbrev pub marks : Literals → ℕ
+marks clause = marks_of true (has_equation clause) (first_of clause) (others_of clause)
+
 abbrev pub fingerprints : Literals → Fingerprints
 fingerprints clause = record {
   first = first_of clause;
   others = others_of clause;
   equation = has_equation clause;
-  marks = marks_of true (has_equation clause) (first_of clause) (others_of clause);
   wanted = marks_of false (has_equation clause) (first_of clause) (others_of clause);
 }
 
@@ -142,5 +145,17 @@ may_resolve print others = may_clash print others.first || list_any (may_clash p
 
 -- where it is false, nothing follows from the clauses
 abbrev pub may_meet : Fingerprints → Fingerprints → Bool
-may_meet prints others = not (nat_eq (bit_and prints.wanted others.marks) 0) && (prints.equation || (others.equation || (may_resolve prints.first others
-    || list_any (λ print. may_resolve print others) prints.others)))
+may_meet prints others = prints.equation || (others.equation || (may_resolve prints.first others
+    || list_any (λ print. may_resolve print others) prints.others))
+
+-- where it is true, nothing follows from a clause with the fingerprints and one with the marks
+abbrev pub shares_no_mark : Fingerprints → ℕ → Bool
+shares_no_mark prints marks = nat_eq (bit_and prints.wanted marks) 0
+
+-- ---- tables
+
+abbrev pub tabled : List Literals → FingerprintTable
+tabled clauses = record { all = map fingerprints clauses; marks = map marks clauses }
+
+abbrev pub tabled_with : FingerprintTable → Literals → FingerprintTable
+tabled_with table clause = record { all = table.all ++ fingerprints clause ∷ []; marks = table.marks ++ marks clause ∷ [] }

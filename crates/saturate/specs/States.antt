@@ -3,7 +3,7 @@ use Rattle.std.specs.Prelude.{◌≡◌, ◌<◌, map, length}
 use Rattle.sigma_base.specs.Lists.{Each}
 use Rattle.infer.specs.Plain.{IsPlain}
 use Rattle.saturate.specs.declared.reached.State.{State}
-use Rattle.saturate.specs.Fingerprints.{fingerprints}
+use Rattle.saturate.specs.Fingerprints.{tabled}
 use Rattle.saturate.specs.Indexes.{IsIndexed, listed}
 use Rattle.saturate.specs.Runs.{clauses, weight, kept_count}
 
@@ -13,7 +13,7 @@ HasWeights state = state.weights ≡ map weight (clauses state.reached)
 
 -- and the fingerprints
 abbrev pub HasFingerprints : State → Type 0
-HasFingerprints state = state.fingerprints ≡ map fingerprints (clauses state.reached)
+HasFingerprints state = state.fingerprints ≡ tabled (clauses state.reached)
 
 pub record IsConsistent (state : State) : Type 0 where
   pub weights : HasWeights state

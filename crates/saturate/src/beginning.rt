@@ -5,7 +5,7 @@ ghost use Rattle.infer.specs.Checks.{clauses_of};
 ghost use Rattle.infer.specs.Plain.{IsPlain};
 ghost use Rattle.calculus.specs.declared.step.Step.TheVariants as steps;
 ghost use Rattle.saturate.specs.Runs as spec;
-ghost use Rattle.saturate.specs.Fingerprints.{fingerprints as prints_of};
+ghost use Rattle.saturate.specs.Fingerprints.{fingerprints as prints_of, tabled};
 ghost use Rattle.saturate.specs.Indexes.{AreListed, listed as listed_in};
 ghost use Rattle.saturate.specs.States.{IsConsistent};
 
@@ -14,6 +14,7 @@ use crate::index::{Index, list, rarest_key};
 use crate::inputs::Inputs;
 use crate::limits::Mode;
 use crate::reached::{Reached, State, weight};
+use crate::table::FingerprintTable;
 use calculus::Step;
 use sigma_base::{Listed, NoMemory};
 use std::alloc::Global;
@@ -34,7 +35,7 @@ pub(crate) fn beginning<'a>(
     let steps = input_steps(alloc, inputs.count() as u32)?;
     let weights = input_weights(alloc, &inputs)?;
     let fingerprints = input_fingerprints(alloc, &inputs)?;
-    let listed = input_index(alloc, &inputs, fingerprints.items())?;
+    let listed = input_index(alloc, &inputs, fingerprints.all.items())?;
     let processed = first_processed(alloc, &inputs, mode)?;
     let waiting = first_waiting(alloc, &inputs, mode)?;
     Ok(State {
@@ -76,16 +77,16 @@ fn input_weights(alloc: Global, inputs: &Inputs<'_>) -> Result<Listed<u64>, NoMe
     Ok(weights)
 }
 
-fn input_fingerprints(alloc: Global, inputs: &Inputs<'_>) -> Result<Listed<Fingerprints>, NoMemory>
-    ensures { IfOk result (λ list. list ≡ map prints_of (clauses_of inputs.now)) }
+fn input_fingerprints(alloc: Global, inputs: &Inputs<'_>) -> Result<FingerprintTable, NoMemory>
+    ensures { IfOk result (λ table. table ≡ tabled (clauses_of inputs.now)) }
 {
-    let mut list = Listed::new(alloc);
+    let mut table = FingerprintTable::new(alloc);
     for number in 0..inputs.count() {
         if let Some(input) = inputs.get(number) {
-            list.push(Fingerprints::of(alloc, &input.clause)?)?;
+            table.add(alloc, &input.clause)?;
         }
     }
-    Ok(list)
+    Ok(table)
 }
 
 /// All inputs, which have these fingerprints, each by the key of one of its literals.

@@ -1,5 +1,5 @@
 //! Fingerprints of clauses, by which most pairs of clauses are told apart without a walk through either.
-ghost use Rattle.std.specs.Prelude.{◌≡◌, ◌<◌, IfOk};
+ghost use Rattle.std.specs.Prelude.{◌≡◌, ◌<◌, true, IfOk};
 ghost use Rattle.std.specs.List.{list_any};
 ghost use Rattle.saturate.specs.Fingerprints as spec;
 ghost use Rattle.saturate.specs.Indexes.{HasCodes, key_of};
@@ -32,9 +32,7 @@ pub(crate) struct Fingerprints {
     pub(crate) others: Listed<Fingerprint>,
     /// A positive literal is an equality.
     pub(crate) equation: bool,
-    /// A bit for the sign and the head of each literal, or all.
-    pub(crate) marks: u64,
-    /// The bits of the literals that these could be resolved with, or all.
+    /// The marks of the literals that these could be resolved with, or all.
     pub(crate) wanted: u64,
 }
 
@@ -263,15 +261,27 @@ impl Fingerprints {
         let first = first_of(literals);
         let others = others_of(alloc, literals)?;
         let equation = has_equation(literals);
-        let marks = marks_of(true, equation, &first, others.items());
         let wanted = marks_of(false, equation, &first, others.items());
         Ok(Fingerprints {
             first,
             others,
             equation,
-            marks,
             wanted,
         })
+    }
+
+    /// A bit for the sign and the head of each literal, or all.
+    pub(crate) fn marks(&self) -> u64
+        ensures { result ≡ spec.marks_of true self.now.equation self.now.first self.now.others }
+    {
+        marks_of(true, self.equation, &self.first, self.others.items())
+    }
+
+    /// Where it is true, nothing follows from a clause with these fingerprints and one with those marks.
+    pub(crate) fn shares_no_mark(&self, marks: u64) -> bool
+        ensures { result ≡ spec.shares_no_mark self.now marks }
+    {
+        self.wanted & marks == 0
     }
 
     /// Where it is false, no clause with these fingerprints subsumes one with the others.
@@ -293,9 +303,6 @@ impl Fingerprints {
     pub(crate) fn may_meet(&self, others: &Fingerprints) -> bool
         ensures { result ≡ spec.may_meet self.now others.now }
     {
-        if self.wanted & others.marks == 0 {
-            return false;
-        }
         if self.equation || others.equation || self.first.may_resolve(others) {
             return true;
         }

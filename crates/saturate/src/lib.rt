@@ -15,6 +15,7 @@ mod limits;
 mod lookup;
 mod reached;
 mod saturation;
+mod table;
 mod turn;
 
 pub use arrival::Arrival;

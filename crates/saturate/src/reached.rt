@@ -16,6 +16,7 @@ ghost use Rattle.kif_tree.specs.Terms.{symbols as symbols_in};
 use crate::fingerprint::Fingerprints;
 use crate::index::{Index, list, rarest_key};
 use crate::inputs::Inputs;
+use crate::table::FingerprintTable;
 use calculus::Step;
 use infer::Conclusion;
 use kif_tree::{Clause, symbols};
@@ -76,7 +77,7 @@ pub(crate) struct State<'a> {
     /// How many symbols the clause of each step has.
     pub weights: Listed<u64>,
     /// The fingerprints of the clause of each step.
-    pub fingerprints: Listed<Fingerprints>,
+    pub fingerprints: FingerprintTable,
     /// The numbers of all known clauses, and of some that were dropped, each by the key of one of its literals.
     pub listed: Index,
     /// How many derived clauses are processed, wait or are aside.
@@ -112,7 +113,7 @@ impl<'a> State<'a> {
         };
         let Conclusion { clause, step } = conclusion;
         self.weights.push(weight(&clause))?;
-        self.fingerprints.push(Fingerprints::of(alloc, &clause)?)?;
+        self.fingerprints.add(alloc, &clause)?;
         self.reached.derived.push(clause)?;
         self.reached.steps.push(step)?;
         Ok(number)
@@ -128,7 +129,10 @@ impl<'a> State<'a> {
         ensures fingerprints { OnOk result (self.new.fingerprints ≡ self.old.fingerprints) }
         ensures kept { OnOk result (self.new.kept ≡ self.old.kept) }
     {
-        let key = rarest_key(&self.listed, &self.fingerprints.items()[number as usize]);
+        let key = rarest_key(
+            &self.listed,
+            &self.fingerprints.all.items()[number as usize],
+        );
         list(alloc, &mut self.listed, key, number)
     }
 
@@ -148,7 +152,7 @@ impl<'a> State<'a> {
         requires { HasFingerprints self.now }
         ensures { result ≡ false → (general special : Literals) → nth (spec.clauses self.now.reached) number ≡ Some general → prints.now ≡ prints_of special → Subsumes general special → ⊥ }
     {
-        match self.fingerprints.items().get(number as usize) {
+        match self.fingerprints.all.items().get(number as usize) {
             Some(own) => own.may_subsume(prints),
             None => true,
         }
@@ -159,10 +163,19 @@ impl<'a> State<'a> {
         requires { HasFingerprints self.now }
         ensures { result ≡ false → (same : Bool) → AreConclusions (clause_at (spec.clauses self.now.reached) given) (clause_at (spec.clauses self.now.reached) partner) same [] }
     {
-        let all = self.fingerprints.items();
-        match (all.get(given as usize), all.get(partner as usize)) {
-            (Some(own), Some(other)) => own.may_meet(other),
-            _ => true,
+        let all = self.fingerprints.all.items();
+        let Some(own) = all.get(given as usize) else {
+            return true;
+        };
+        let Some(marks) = self.fingerprints.marks.items().get(partner as usize) else {
+            return true;
+        };
+        if own.shares_no_mark(*marks) {
+            return false;
+        }
+        match all.get(partner as usize) {
+            Some(other) => own.may_meet(other),
+            None => true,
         }
     }
 }

@@ -10,9 +10,9 @@ use Rattle.clap.specs.Values.{IsSignedIn, reading_of, same_text}
 use Rattle.clap.specs.ValueTests.{accepts, is_signed_in}
 use Rattle.clap.proofs.ValueTestLemmas.{accepts-Accepts}
 use Rattle.std.specs.Str.Parse.{IsNumeral, starts_with_minus, without_leading_plus}
-use Rattle.clap.specs.Walk.{arg_by_id, first_of, Row, Held, Text, nothing_held, walk}
+use Rattle.clap.specs.Walk.{arg_by_id, first_of, Row, Held, Text, nothing_held, walk, walked}
 use Rattle.clap.specs.Simple.{App, Shape, built, entered, is_simple, matches_of}
-use Rattle.clap.specs.Takes.{value_passes, is_given, built_takes, entered_passes, level_passes, takes}
+use Rattle.clap.specs.Takes.{value_passes, is_given, built_takes, entered_passes, level_passes, takes, walk_passes}
 use Rattle.clap.specs.declared.builder.value_parser.ValueParser.{ValueParser}
 use Rattle.clap.specs.declared.builder.value_parser.ValueParser.TheVariants as vp
 use Rattle.clap.proofs.OnLiterals.{clap_on_literals}
@@ -23,7 +23,7 @@ use Rattle.sigma_app.specs.declared.commands.CommandName.TheVariants as command
 use Rattle.sigma_app.specs.declared.requests.Request.{Request}
 use Rattle.sigma_app.specs.declared.requests.WordsError.{WordsError}
 use Rattle.sigma_app.specs.declared.requests.WordsError.TheVariants.{Usage, NoMemory}
-use Rattle.sigma_app.specs.Requests.{NamesNone, Asked, HasOptions, IsUpTo, Meaning, meaning, is_taken, Means, IsTaken, meaning_of, ReadsWords, asks, checks, gives_clauses, exports, drills, asked_of, paths_of, meaning_by}
+use Rattle.sigma_app.specs.Requests.{NamesNone, Asked, HasOptions, IsUpTo, Meaning, meaning, is_taken, Means, IsTaken, meaning_of, ReadsWords, asks, checks, gives_clauses, exports, drills, asked_of, paths_of, meaning_by, TakesUsage}
 use Rattle.sigma_app.proofs.ValueLaws.{Full, level_full, given_first, given_all, first_passes}
 use Rattle.sigma_app.proofs.ParserLaws.{rows_after_same, level_passes_same}
 
@@ -396,3 +396,9 @@ pub sizes_fit : (words : List Text) (size : Text) → IsTaken words → Means wo
 unfolding meaning is_taken
 sizes_fit [] size taken means = absurd (false_true taken)
 sizes_fit (word ∷ rest) size taken means = sizes_by (named word) rest size taken means
+
+-- ---- words that are taken
+
+pub usage_taken : TakesUsage
+unfolding is_taken walk_passes walked
+usage_taken = (refl, (refl, (refl, (refl, (refl, (refl, tt))))))

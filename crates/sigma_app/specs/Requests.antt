@@ -7,6 +7,7 @@ use Rattle.std.specs.Str.Parse.{IsNumeral, digits_value, without_leading_plus}
 use Rattle.std.specs.Borrow.{Bor}
 use Rattle.clap.specs.ValueTests.{accepts}
 use Rattle.clap.specs.Words.{Row, takes, matches_of, first_of, all_of}
+use Rattle.sigma_base.specs.Lists.{Each}
 use Rattle.kif_tree.specs.Terms.{Bytes}
 use Rattle.sig_io.specs.Named.{AreDistinct}
 use Rattle.sigma_app.specs.Commands.{named, app, modes}
@@ -157,6 +158,22 @@ OthersMeanNothing = (words : List Bytes) → NamesNone words → meaning words �
 -- words that the parser promises to take mean something
 abbrev pub TakenMeans : Type 0
 TakenMeans = (words : List Bytes) → IsTaken words → (value : Meaning) × Means words value
+
+-- words of each command, as an author writes them
+abbrev pub usage : List (List Bytes)
+usage =
+    (codes "ask" ∷ codes "(p ?X)" ∷ codes "a.kif" ∷ [])
+    ∷ (codes "ask" ∷ codes "--turns" ∷ codes "100000" ∷ codes "--answers" ∷ codes "1" ∷ codes "--kept" ∷ codes "200000" ∷ codes "--mode" ∷ codes "full"
+    ∷ codes "(p ?X)" ∷ codes "a.kif" ∷ codes "b.kif" ∷ [])
+    ∷ (codes "check" ∷ codes "a.kif" ∷ codes "b.kif" ∷ [])
+    ∷ (codes "clauses" ∷ codes "a.kif" ∷ [])
+    ∷ (codes "export" ∷ codes "a.kif" ∷ [])
+    ∷ (codes "drill" ∷ codes "2000" ∷ [])
+    ∷ []
+
+-- they are taken, so what is said of words that are taken is said of some
+abbrev pub TakesUsage : Type 0
+TakesUsage = Each IsTaken usage
 
 -- an option for the mode takes the two words and no others
 abbrev pub TakesTwoModes : Type 0

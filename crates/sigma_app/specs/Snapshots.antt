@@ -13,10 +13,6 @@ use Rattle.diagnose.specs.Diagnostics.{IsDiagnostic, AreAscending}
 use Rattle.translate.specs.Translation.{IsWhole, IsFullAt}
 use Rattle.translate.specs.declared.translated.Translated.{Translated}
 
--- how many clauses a snapshot may have
-abbrev pub clause_limit : ℕ
-clause_limit = 400000
-
 -- `limit snapshot NAME:LINE:COLUMN`
 abbrev pub snapshot_text : List LoadName → Place → Bytes
 snapshot_text names place = codes "limit snapshot " ++ (place_text names place ++ 10 ∷ [])

@@ -21,11 +21,12 @@ pub fn clause_set_law()
 {}
 
 /// The words of a command line mean one thing at most: nothing where the first names no command, and something where the parser
-/// promises to take them. Then the options have values that they may have.
+/// promises to take them. Then the options have values that they may have. It takes words of each command.
 pub fn words_law()
     ensures one { requests.MeansOne }
     ensures none { requests.OthersMeanNothing }
     ensures some { requests.TakenMeans }
+    ensures taken { requests.TakesUsage }
     ensures modes { requests.TakesTwoModes }
     ensures options { requests.OptionsFit }
     ensures sizes { requests.SizesFit }

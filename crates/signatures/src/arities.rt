@@ -269,7 +269,7 @@ fn add_all(
     Ok(())
 }
 
-/// The own arities of all words, but that words to which nothing leads are left out, and built-in words where no link has them.
+/// The own arities of words. Each in the table is right; a word that isn't there has none, but for built-in words to which no relation chain leads.
 pub fn own_arities(
     alloc: Global,
     forms: &[Located],

@@ -7,7 +7,7 @@ ghost use Rattle.unify.specs.Subsumption.{Subsumes};
 
 use kif_tree::{Form, Literal};
 
-/// Whether each literal of the first clause looks like some literal of the second, which has no fewer. It takes no memory.
+/// Whether the first clause may subsume the second: it doesn't where this is false. It takes no memory.
 pub(crate) fn each_has_place(general: &[Literal], special: &[Literal]) -> bool
     ensures { result ≡ false → Subsumes general.now special.now → ⊥ }
 {
@@ -22,6 +22,7 @@ pub(crate) fn each_has_place(general: &[Literal], special: &[Literal]) -> bool
     true
 }
 
+/// Whether the literal may become one of the others: it becomes none where this is false.
 fn has_place(literal: &Literal, others: &[Literal]) -> bool
     ensures { result ≡ false → (g : Filling) → Each (λ other. bind_literal g literal.now ≡ other → ⊥) others.now }
 {
@@ -33,7 +34,7 @@ fn has_place(literal: &Literal, others: &[Literal]) -> bool
     false
 }
 
-/// Whether the literals have one sign, and the first may become the second by its head and its count of arguments. It takes no memory.
+/// Whether the first literal may become the second: their signs are one where this is true, and it doesn't where this is false. It takes no memory.
 pub(crate) fn looks_alike(literal: &Literal, other: &Literal) -> bool
     ensures away { result ≡ false → (g : Filling) → bind_literal g literal.now ≡ other.now → ⊥ }
     ensures sign { result ≡ true → literal.now.positive ≡ other.now.positive }

@@ -95,7 +95,7 @@ fn place_at<'a>(
     Ok(false)
 }
 
-/// The number of a literal that can become no more free ones than any other.
+/// The number of a literal to place first: by choice one that can become the fewest free ones. Any number is right, some are slow.
 fn most_confined<'a>(
     unplaced: &[&'a Literal],
     free: &[&'a Literal],
@@ -120,7 +120,7 @@ fn most_confined<'a>(
     Ok(best)
 }
 
-/// How many free literals the literal can become, counted up to `most`.
+/// A guess at how many free literals the literal can become, up to `most`. The bindings stay as they were.
 fn places_left<'a>(
     literal: &'a Literal,
     free: &[&'a Literal],

@@ -6,7 +6,7 @@ use kif_tree::Forms;
 pub enum Expanded {
     /// The form after each choice that fits: one at least, and at most 20,000.
     Variants(Forms),
-    /// No lengths of the row variables fit, of which the form has one at least, and no predicate variable.
+    /// Nothing fits, and the form has no predicate variable. Within the profile it has a row variable.
     NoLength,
     /// No relation names, with whatever lengths, fit. The form has a predicate variable.
     NoRelation,
