@@ -18,7 +18,8 @@ use Rattle.saturate.specs.declared.limits.Mode.{Mode}
 use Rattle.saturate.specs.declared.limits.Mode.TheVariants.{Support, Full}
 use Rattle.saturate.specs.declared.reached.Reached.{Reached}
 use Rattle.saturate.specs.declared.reached.State.{State}
-use Rattle.saturate.specs.Fingerprints.{fingerprints, marks, tabled, tabled_with}
+use Rattle.saturate.specs.Fingerprints.{fingerprints}
+use Rattle.saturate.specs.Marks.{marks, tabled, tabled_with}
 use Rattle.saturate.specs.Indexes.{Listing, AreListed, IsIndexed, IsListedUnderOne, listed}
 use Rattle.saturate.specs.Inputs.{is_query_number}
 use Rattle.saturate.specs.Runs.{clauses, numbers_from, numbers_of, first_processed, first_waiting, beginning, weight, kept_count}

@@ -1,4 +1,4 @@
--- Marks: two clauses that share no bit can't be resolved with each other, and neither has an equation.
+-- Marks of signs and heads: of two clauses that share no bit no literals are resolved upon.
 use Rattle.std.proofs.Common.{◌≡◌, ◌⊎◌, inl, inr, ◌<◌, ◌≤◌, ℕ, ◌^◌, min, nat_eq, List, [], ◌∷◌, map, length, Bool, true, false, not, ◌||◌, if◌then◌else◌, refl, sym, ap, ap₂, ◌∙◌, subst, eq-eqb, arith}
 use Rattle.std.specs.Int.{bit_at}
 use Rattle.std.specs.Int.Bits.{bit_and, bit_or}
@@ -12,27 +12,28 @@ use Rattle.kif_tree.specs.Names.{parts_in}
 use Rattle.kif_tree.specs.Clauses.{Literals, same_sign}
 use Rattle.calculus.specs.Answers.{Among}
 use Rattle.calculus.proofs.TruthLaws.{both, false_true}
-use Rattle.saturate.specs.Fingerprints.{part_code, agree, fingerprint, may_clash, first_of, others_of, has_equation, fingerprints, marks, all_marks, mark_place, mark, mark_of, joined, marks_of}
+use Rattle.saturate.specs.Fingerprints.{part_code, agree, fingerprint, may_clash, first_of, others_of}
+use Rattle.saturate.specs.Marks.{all_marks, joined, mark_place, mark, mark_of, marks_of, marks}
 use Rattle.saturate.proofs.ListLaws.{each_of_members}
 
 -- the bit is set
-abbrev HasBit : ℕ → ℕ → Type 0
+abbrev pub HasBit : ℕ → ℕ → Type 0
 HasBit n i = 1 ≤ bit_at n i
 
 -- one of the first 64 bits is set
-record HasSome (n : ℕ) : Type 0 where
-  place : ℕ
-  below : place < 64
-  set : HasBit n place
+pub record HasSome (n : ℕ) : Type 0 where
+  pub place : ℕ
+  pub below : place < 64
+  pub set : HasBit n place
 
 -- one of the first 64 bits is set in both
-record Share (n m : ℕ) : Type 0 where
-  place : ℕ
-  below : place < 64
-  first : HasBit n place
-  second : HasBit m place
+pub record Share (n m : ℕ) : Type 0 where
+  pub place : ℕ
+  pub below : place < 64
+  pub first : HasBit n place
+  pub second : HasBit m place
 
-shared : (n m i : ℕ) → HasBit n i → HasBit m i → bit_and n m ≡ 0 → ⊥
+pub shared : (n m i : ℕ) → HasBit n i → HasBit m i → bit_and n m ≡ 0 → ⊥
 shared n m i first second none =
     let least : 1 ≤ min (bit_at n i) (bit_at m i) = le-min first second in
     let is : bit_at (bit_and n m) i ≡ 0 = ap (λ (k : ℕ). bit_at k i) none ∙ bit_at-zero i in
@@ -41,10 +42,10 @@ shared n m i first second none =
 
 -- ---- marks of literals
 
-all_set : (i : ℕ) → i < 64 → HasBit all_marks i
+pub all_set : (i : ℕ) → i < 64 → HasBit all_marks i
 all_set i below = let one = bit_at_ones 64 i below in omega (arith, one)
 
-power_set : (i : ℕ) → HasBit (2 ^ i) i
+pub power_set : (i : ℕ) → HasBit (2 ^ i) i
 power_set i = let one = bit_at-pow_same i in omega (arith, one)
 
 place_below : (positive : Bool) (head : ℕ) → mark_place positive head < 64
@@ -64,13 +65,13 @@ mark_unknown positive head i none below =
 
 -- ---- marks of clauses
 
-joined_keeps : (marks : ℕ) (more : List ℕ) (i : ℕ) → HasBit marks i → HasBit (joined marks more) i
+pub joined_keeps : (marks : ℕ) (more : List ℕ) (i : ℕ) → HasBit marks i → HasBit (joined marks more) i
 joined_keeps marks [] i h = h
 joined_keeps marks (mark ∷ more) i h =
     joined_keeps (bit_or marks mark) more i
     (let is = bit_at_or marks mark i in let least = le-max_left (bit_at marks i) (bit_at mark i) in omega (arith, h, is, least))
 
-joined_has : (marks : ℕ) (more : List ℕ) (mark i : ℕ) → Among mark more → HasBit mark i → HasBit (joined marks more) i
+pub joined_has : (marks : ℕ) (more : List ℕ) (mark i : ℕ) → Among mark more → HasBit mark i → HasBit (joined marks more) i
 joined_has marks [] mark i there h = absurd there
 joined_has marks (other ∷ more) mark i (inl e) h =
     joined_keeps (bit_or marks other) more i
@@ -81,26 +82,19 @@ joined_has marks (other ∷ more) mark i (inl e) h =
 joined_has marks (other ∷ more) mark i (inr there) h = joined_has (bit_or marks other) more mark i there h
 
 -- a bit of one of its literals
-clause_has : (own equation : Bool) (clause : Literals) (literal : Literal) (i : ℕ) → i < 64 → Among literal clause → HasBit (mark_of own (fingerprint literal)) i
-    → HasBit (marks_of own equation (first_of clause) (others_of clause)) i
-clause_has own true clause literal i below there h = all_set i below
-clause_has own false [] literal i below there h = absurd there
-clause_has own false (first ∷ clause) literal i below (inl e) h =
+clause_has : (own : Bool) (clause : Literals) (literal : Literal) (i : ℕ) → Among literal clause → HasBit (mark_of own (fingerprint literal)) i
+    → HasBit (marks_of own (first_of clause) (others_of clause)) i
+clause_has own [] literal i there h = absurd there
+clause_has own (first ∷ clause) literal i (inl e) h =
     joined_keeps (mark_of own (fingerprint first)) (map (mark_of own) (map fingerprint clause)) i
     (subst (λ (l : Literal). HasBit (mark_of own (fingerprint l)) i) e h)
-clause_has own false (first ∷ clause) literal i below (inr there) h =
+clause_has own (first ∷ clause) literal i (inr there) h =
     joined_has (mark_of own (fingerprint first)) (map (mark_of own) (map fingerprint clause)) (mark_of own (fingerprint literal)) i (among clause there) h
   where
     among : (more : Literals) → Among literal more → Among (mark_of own (fingerprint literal)) (map (mark_of own) (map fingerprint more))
     among [] k = absurd k
     among (other ∷ more) (inl e) = inl (ap (λ (l : Literal). mark_of own (fingerprint l)) e)
     among (other ∷ more) (inr k) = inr (among more k)
-
-clause_some : (own equation : Bool) (clause : Literals) → HasSome (marks_of own equation (first_of clause) (others_of clause))
-clause_some own true clause = record { place = 0; below = omega arith; set = all_set 0 (omega arith) }
-clause_some own false clause =
-    let one = mark_some (same_sign own (first_of clause).positive) (first_of clause).head in
-    record { place = one.place; below = one.below; set = joined_keeps (mark_of own (first_of clause)) (map (mark_of own) (others_of clause)) one.place one.set }
 
 -- ---- literals that may clash
 
@@ -109,7 +103,7 @@ no_head : (parts : List Form) → nat_eq (length parts) 0 ≡ true → part_code
 no_head [] e = refl
 no_head (f ∷ parts) e = let no_way = eqb-true (length (f ∷ parts)) 0 e in absurd (omega (arith, no_way))
 
-either : (b c : Bool) → (b || c) ≡ true → (b ≡ true) ⊎ (c ≡ true)
+pub either : (b c : Bool) → (b || c) ≡ true → (b ≡ true) ⊎ (c ≡ true)
 either true c h = inl refl
 either false c h = inr h
 
@@ -162,36 +156,15 @@ clash_shared l m clash =
 
 -- ---- clauses whose marks share no bit
 
-module _ (given partner : Literals) (none : bit_and (fingerprints given).wanted (marks partner) ≡ 0) where
-  pub first_no_equation : has_equation given ≡ false
-  first_no_equation = go (has_equation given) refl
-    where
-      go : (b : Bool) → has_equation given ≡ b → b ≡ false
-      go false e = refl
-      go true e =
-          let one = clause_some true (has_equation partner) partner in
-          absurd (shared (fingerprints given).wanted (marks partner) one.place
-          (subst (λ (b : Bool). HasBit (marks_of false b (first_of given) (others_of given)) one.place) (sym e) (all_set one.place one.below)) one.set none)
-
-  pub second_no_equation : has_equation partner ≡ false
-  second_no_equation = go (has_equation partner) refl
-    where
-      go : (b : Bool) → has_equation partner ≡ b → b ≡ false
-      go false e = refl
-      go true e =
-          let one = clause_some false (has_equation given) given in
-          absurd (shared (fingerprints given).wanted (marks partner) one.place one.set
-          (subst (λ (b : Bool). HasBit (marks_of true b (first_of partner) (others_of partner)) one.place) (sym e) (all_set one.place one.below)) none)
-
-  pub no_clashes : Each (λ literal. Each (λ other. may_clash (fingerprint literal) (fingerprint other) ≡ false) partner) given
-  no_clashes =
-      each_of_members (λ literal. Each (λ other. may_clash (fingerprint literal) (fingerprint other) ≡ false) partner) given (λ l l_among.
-      each_of_members (λ other. may_clash (fingerprint l) (fingerprint other) ≡ false) partner (λ m m_among. go l m l_among m_among (may_clash (fingerprint l) (fingerprint m)) refl))
-    where
-      go : (l m : Literal) → Among l given → Among m partner → (b : Bool) → may_clash (fingerprint l) (fingerprint m) ≡ b → b ≡ false
-      go l m l_among m_among false e = refl
-      go l m l_among m_among true e =
-          let share = clash_shared l m e in
-          absurd (shared (fingerprints given).wanted (marks partner) share.place
-          (clause_has false (has_equation given) given l share.place share.below l_among share.first)
-          (clause_has true (has_equation partner) partner m share.place share.below m_among share.second) none)
+pub no_clashes : (given partner : Literals) → bit_and (marks given).wanted (marks partner).own ≡ 0
+    → Each (λ literal. Each (λ other. may_clash (fingerprint literal) (fingerprint other) ≡ false) partner) given
+no_clashes given partner none =
+    each_of_members (λ literal. Each (λ other. may_clash (fingerprint literal) (fingerprint other) ≡ false) partner) given (λ l l_among.
+    each_of_members (λ other. may_clash (fingerprint l) (fingerprint other) ≡ false) partner (λ m m_among. go l m l_among m_among (may_clash (fingerprint l) (fingerprint m)) refl))
+  where
+    go : (l m : Literal) → Among l given → Among m partner → (b : Bool) → may_clash (fingerprint l) (fingerprint m) ≡ b → b ≡ false
+    go l m l_among m_among false e = refl
+    go l m l_among m_among true e =
+        let share = clash_shared l m e in
+        absurd (shared (marks given).wanted (marks partner).own share.place
+        (clause_has false given l share.place l_among share.first) (clause_has true partner m share.place m_among share.second) none)

@@ -1,10 +1,9 @@
 -- What fingerprints leave out: clauses that don't subsume each other, and clauses from which nothing follows.
-use Rattle.std.proofs.Common.{◌≡◌, ◌⊎◌, inl, inr, ◌<◌, ℕ, zero, suc, nat_eq, List, [], ◌∷◌, map, length, get_or, Bool, true, false, not, ◌&&◌, ◌||◌, if◌then◌else◌, Option, Some, None, is_some, refl, sym, ap, ap₂, ◌∙◌, subst, eq-eqb, arith}
-use Rattle.std.specs.Int.Bits.{bit_and}
+use Rattle.std.proofs.Common.{◌≡◌, ◌⊎◌, inl, inr, ◌<◌, ℕ, zero, suc, nat_eq, List, [], ◌∷◌, map, length, get_or, Bool, true, false, not, ◌&&◌, ◌||◌, Some, refl, sym, ap, ap₂, ◌∙◌, subst, eq-eqb, arith}
 use Rattle.std.specs.List.{list_any, list_all}
-use Rattle.std.proofs.lemmas.Bool.{eqb-true, or_parts}
+use Rattle.std.proofs.lemmas.Bool.{or_parts}
 use Rattle.std.proofs.lemmas.List.{length-map}
-use Rattle.sigma_base.specs.Lists.{Each, each_append, each_map}
+use Rattle.sigma_base.specs.Lists.{Each, each_map}
 use Rattle.kif_tree.specs.declared.form.Form.{Form}
 use Rattle.kif_tree.specs.declared.form.Form.TheVariants as form
 use Rattle.kif_tree.specs.declared.clause.Literal.{Literal}
@@ -13,24 +12,20 @@ use Rattle.kif_tree.specs.Names.{parts_layer, parts_in}
 use Rattle.kif_tree.specs.Clauses.{Literals, bind_literal, bind_clause, same_sign}
 use Rattle.kif_tree.specs.FormLaws.{induction}
 use Rattle.kif_tree.proofs.SubstLaws.{bind-List}
-use Rattle.calculus.specs.declared.places.Sides.{Sides}
-use Rattle.calculus.specs.Rules.{nth, sides, Picked, pick, others}
+use Rattle.calculus.specs.Rules.{Picked, pick, others}
 use Rattle.calculus.specs.Answers.{Among}
-use Rattle.calculus.proofs.PlaceLaws.{none_some, some_same, picked}
+use Rattle.calculus.proofs.PlaceLaws.{picked}
 use Rattle.calculus.proofs.MemberLaws.{among-left, among-right, among-parted, among-map, any-among, later}
 use Rattle.calculus.proofs.TruthLaws.{both, false_true, signs}
 use Rattle.calculus_programs.proofs.PickLaws.{some_item}
 use Rattle.unify.specs.Subsumption.{Subsumes, StandsBeside, Stand}
 use Rattle.unify.specs.Unifiers.{HasNoneApart}
-use Rattle.infer.specs.Sites.{each_below, resolution_sites, resolutions, paramodulations, conclusion_sites}
-use Rattle.infer.specs.Conclusions.{GivesNothing, AreConclusions}
-use Rattle.infer.proofs.ListLaws.{each_below-each, at-nothing}
+use Rattle.infer.specs.Sites.{each_below, resolution_sites, resolutions}
+use Rattle.infer.specs.Conclusions.{GivesNothing}
+use Rattle.infer.proofs.ListLaws.{each_below-each}
 use Rattle.infer.proofs.ResolveLaws.{resolve_none, one_sign}
-use Rattle.infer.proofs.ConclusionLaws.{IsNoEquality, both_ways, nothing_by_literal}
 use Rattle.saturate.specs.declared.fingerprint.Fingerprint.{Fingerprint}
-use Rattle.saturate.specs.Inputs.{is_equality}
-use Rattle.saturate.specs.Fingerprints.{code, part_code, fits, agree, fingerprint, may_become, may_clash, first_of, others_of, has_equation, fingerprints, may_be_in, may_subsume, may_resolve, may_meet, marks, shares_no_mark}
-use Rattle.saturate.proofs.BitLaws.{first_no_equation, second_no_equation, no_clashes}
+use Rattle.saturate.specs.Fingerprints.{code, part_code, fits, agree, fingerprint, may_become, may_clash, first_of, others_of, fingerprints, may_be_in, may_subsume, may_resolve, may_meet}
 use Rattle.saturate.proofs.CodeLaws.{kept}
 
 -- ---- codes
@@ -42,7 +37,7 @@ fits_bound g f = go (kept g f)
     go (inl none) = ap (λ (b : Bool). b || nat_eq (code f) (code (bind g f))) (eq-eqb (code f) 0 none)
     go (inr stays) = later (nat_eq (code f) 0) (nat_eq (code f) (code (bind g f))) (eq-eqb (code f) (code (bind g f)) (ap code (sym stays)))
 
-agree_met : (f g : Filling) (x y : Form) → bind f x ≡ bind g y → agree (code x) (code y) ≡ true
+pub agree_met : (f g : Filling) (x y : Form) → bind f x ≡ bind g y → agree (code x) (code y) ≡ true
 agree_met f g x y meet = go (kept f x) (kept g y)
   where
     go : (code x ≡ 0) ⊎ (bind f x ≡ x) → (code y ≡ 0) ⊎ (bind g y ≡ y) → agree (code x) (code y) ≡ true
@@ -64,7 +59,7 @@ part_agrees f g (x ∷ xs) (y ∷ ys) meet zero = agree_met f g x y (cc)
 part_agrees f g (x ∷ xs) (y ∷ ys) meet (suc n) = part_agrees f g xs ys (cc) n
 
 -- an atom has no parts, or has as many under a filling
-parts-bind : (g : Filling) (f : Form) → (parts_in f ≡ []) ⊎ (parts_in (bind g f) ≡ map (bind g) (parts_in f))
+pub parts-bind : (g : Filling) (f : Form) → (parts_in f ≡ []) ⊎ (parts_in (bind g f) ≡ map (bind g) (parts_in f))
 parts-bind g = induction (λ f. (parts_in f ≡ []) ⊎ (parts_in (bind g f) ≡ map (bind g) (parts_in f))) (record {
   word = λ text. inl (ap parts_layer (form.outs-Word text));
   variable = λ text. inl (ap parts_layer (form.outs-Variable text));
@@ -184,7 +179,7 @@ each_index P (y ∷ xs) zero x below is each = subst P (sym is) each.0
 each_index P (y ∷ xs) (suc n) x below is each = each_index P xs n x (omega arith) is each.1
 
 -- the literal can't be resolved upon with one of the clause
-abbrev IsApartFrom : Literals → Literal → Type 0
+abbrev pub IsApartFrom : Literals → Literal → Type 0
 IsApartFrom clause literal = Each (λ other. may_clash (fingerprint literal) (fingerprint other) ≡ false) clause
 
 apart_from : (clause : Literals) (literal : Literal) → may_resolve (fingerprint literal) (fingerprints clause) ≡ false → IsApartFrom clause literal
@@ -207,7 +202,7 @@ module _ (given partner : Literals) where
             (resolve_none clauses 1 j 0 i partner given m l refl refl m_below l_below m_is l_is (λ f g meet. none g f (sym meet)), tt),
           )
 
-  nothing_resolved : Each (IsApartFrom partner) given → Each (GivesNothing (given ∷ partner ∷ [])) (resolutions given partner)
+  pub nothing_resolved : Each (IsApartFrom partner) given → Each (GivesNothing (given ∷ partner ∷ [])) (resolutions given partner)
   nothing_resolved apart =
       each_below-each (GivesNothing (given ∷ partner ∷ [])) (length given) (λ i. each_below (length partner) (resolution_sites i)) (λ i i_below.
       each_below-each (GivesNothing (given ∷ partner ∷ [])) (length partner) (resolution_sites i) (λ j j_below.
@@ -217,69 +212,14 @@ module _ (given partner : Literals) where
       (each_index (λ other. may_clash (fingerprint one.0) (fingerprint other) ≡ false) partner j two.0 j_below two.1
       (each_index (IsApartFrom partner) given i one.0 i_below one.1 apart))))
 
--- ---- paramodulations
+-- ---- two clauses
 
-no_equation : (clause : Literals) (i : ℕ) → has_equation clause ≡ false → IsNoEquality clause i
-no_equation [] i none = λ literal at. absurd (none_some literal at)
-no_equation (first ∷ others) zero none = λ literal at.
-    subst (λ (l : Literal). (l.positive ≡ false) ⊎ (sides l.atom ≡ None)) (some_same first literal at)
-    (go first.positive (sides first.atom) refl refl
-    (or_parts (first.positive && is_some (sides first.atom)) (list_any (λ literal. literal.positive && is_equality literal.atom) others) none).0)
-  where
-    go : (positive : Bool) (o : Option Sides) → first.positive ≡ positive → sides first.atom ≡ o → (positive && is_some o) ≡ false
-        → (first.positive ≡ false) ⊎ (sides first.atom ≡ None)
-    go false o p e h = inl p
-    go true None p e h = inr e
-    go true (Some equality) p e h = absurd (false_true (sym h))
-no_equation (first ∷ others) (suc i) none = no_equation others i
-    (or_parts (first.positive && is_some (sides first.atom)) (list_any (λ literal. literal.positive && is_equality literal.atom) others) none).1
-
-nothing_rewritten : (clauses : List Literals) (source : ℕ) (from : Literals) (target : ℕ) (into : Literals) → nth clauses source ≡ Some from
-    → has_equation from ≡ false → Each (GivesNothing clauses) (paramodulations source from target into)
-nothing_rewritten clauses source from target into at none =
-    each_below-each (GivesNothing clauses) (length from) (λ i. both_ways source i target into)
-    (λ i below. nothing_by_literal clauses source i target from into at (no_equation from i none))
-
--- ---- both
-
-apart : (given partner : Literals) → (has_equation given || (has_equation partner || (may_resolve (first_of given) (fingerprints partner)
-    || list_any (λ print. may_resolve print (fingerprints partner)) (others_of given)))) ≡ false
-    → (has_equation given ≡ false) × (has_equation partner ≡ false) × Each (IsApartFrom partner) given
-apart given partner none =
-    let first = or_parts (has_equation given) _ none in
-    let second = or_parts (has_equation partner) _ first.1 in
-    (first.0, second.0, all given second.1)
-  where
-    all : (clause : Literals)
-        → (may_resolve (first_of clause) (fingerprints partner) || list_any (λ print. may_resolve print (fingerprints partner)) (others_of clause)) ≡ false
-        → Each (IsApartFrom partner) clause
-    all [] h = tt
-    all (literal ∷ literals) h =
-        let parts = or_parts (may_resolve (fingerprint literal) (fingerprints partner))
-        (list_any (λ print. may_resolve print (fingerprints partner)) (map fingerprint literals)) h in (
-          apart_from partner literal parts.0,
-          each_map (λ other. may_resolve (fingerprint other) (fingerprints partner) ≡ false) (IsApartFrom partner) (apart_from partner) literals
-              (none_passes (λ print. may_resolve print (fingerprints partner)) fingerprint literals parts.1),
-        )
-
-nothing_follows : (given partner : Literals) → (has_equation given ≡ false) × (has_equation partner ≡ false) × Each (IsApartFrom partner) given
-    → (same : Bool) → AreConclusions given partner same []
-nothing_follows given partner are same =
-    let clauses : List Literals = given ∷ partner ∷ [] in
-    at-nothing clauses (conclusion_sites given partner same)
-    (each_append (GivesNothing clauses) (resolutions given partner) _ (nothing_resolved given partner are.2)
-    (each_append (GivesNothing clauses) (paramodulations 0 given 1 partner) _ (nothing_rewritten clauses 0 given 1 partner refl are.0) (back same are.1)))
-  where
-    back : (b : Bool) → has_equation partner ≡ false → Each (GivesNothing (given ∷ partner ∷ [])) (if b then [] else paramodulations 1 partner 0 given)
-    back true has = tt
-    back false has = nothing_rewritten (given ∷ partner ∷ []) 1 partner 0 given refl has
-
-pub nothing_meets : (given partner : Literals) → may_meet (fingerprints given) (fingerprints partner) ≡ false → (same : Bool)
-    → AreConclusions given partner same []
-nothing_meets given partner none = nothing_follows given partner (apart given partner none)
-
-pub nothing_shared : (given partner : Literals) → shares_no_mark (fingerprints given) (marks partner) ≡ true → (same : Bool)
-    → AreConclusions given partner same []
-nothing_shared given partner none =
-    let nothing = eqb-true (bit_and (fingerprints given).wanted (marks partner)) 0 none in
-    nothing_follows given partner (first_no_equation given partner nothing, second_no_equation given partner nothing, no_clashes given partner nothing)
+pub all_apart : (given partner : Literals) → may_meet (fingerprints given) (fingerprints partner) ≡ false → Each (IsApartFrom partner) given
+all_apart [] partner none = tt
+all_apart (literal ∷ literals) partner none =
+    let parts = or_parts (may_resolve (fingerprint literal) (fingerprints partner))
+    (list_any (λ print. may_resolve print (fingerprints partner)) (map fingerprint literals)) none in (
+      apart_from partner literal parts.0,
+      each_map (λ other. may_resolve (fingerprint other) (fingerprints partner) ≡ false) (IsApartFrom partner) (apart_from partner) literals
+          (none_passes (λ print. may_resolve print (fingerprints partner)) fingerprint literals parts.1),
+    )

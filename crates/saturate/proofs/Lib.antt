@@ -20,6 +20,7 @@ pub mod MarkLaws
 pub mod OneRunLaws
 pub mod OpenLaws
 pub mod ResolventLaws
+pub mod RewriteLaws
 pub mod SearchLaws
 pub mod SiteLaws
 pub mod SoundLaws
@@ -28,6 +29,7 @@ pub mod StepLaws
 pub mod SubsumedLaws
 pub mod SubsumptionLaws
 pub mod TableLaws
+pub mod TermMarkLaws
 pub mod TurnLaws
 pub mod UnitLaws
 pub mod WayLaws

@@ -18,7 +18,9 @@ use Rattle.saturate.specs.declared.fingerprint.Fingerprints.{Fingerprints}
 use Rattle.saturate.specs.declared.reached.Reached.{Reached}
 use Rattle.saturate.specs.declared.reached.State.{State}
 use Rattle.saturate.specs.declared.table.FingerprintTable.{FingerprintTable}
-use Rattle.saturate.specs.Fingerprints.{fingerprints, marks, tabled}
+use Rattle.saturate.specs.declared.marks.Marks.{Marks}
+use Rattle.saturate.specs.Fingerprints.{fingerprints}
+use Rattle.saturate.specs.Marks.{marks, tabled}
 use Rattle.saturate.specs.Indexes.{Listing, listed, key_of, HasCodes, IsKeyOf, IsIndexed, IsListedUnderOne}
 use Rattle.saturate.specs.Runs.{clauses, weight, kept_count, is_derived, grown, with_waiting, with_aside, with_found}
 use Rattle.saturate.specs.States.{HasWeights, HasFingerprints, IsConsistent}
@@ -46,16 +48,16 @@ prints_listed state list number prints has is below at =
     ∙ nth-some list number prints below at)
 
 -- and so are its marks
-marks_at : (all : List Literals) (number clause_marks : ℕ) → nth (map marks all) number ≡ Some clause_marks → clause_marks ≡ marks (clause_at all number)
-marks_at [] number clause_marks at = absurd (none_some clause_marks at)
-marks_at (clause ∷ all) zero clause_marks at = sym (some_same (marks clause) clause_marks at)
-marks_at (clause ∷ all) (suc number) clause_marks at = marks_at all number clause_marks at
+marks_at : (all : List Literals) (number : ℕ) (other : Marks) → nth (map marks all) number ≡ Some other → other ≡ marks (clause_at all number)
+marks_at [] number other at = absurd (none_some other at)
+marks_at (clause ∷ all) zero other at = sym (some_same (marks clause) other at)
+marks_at (clause ∷ all) (suc number) other at = marks_at all number other at
 
-pub marks_listed : (state : State) (list : List ℕ) (number clause_marks : ℕ) → HasFingerprints state → list ≡ state.fingerprints.marks
-    → number < length list → clause_marks ≡ get_or list number clause_marks → clause_marks ≡ marks (clause_at (clauses state.reached) number)
-marks_listed state list number clause_marks has is below at =
-    marks_at (clauses state.reached) number clause_marks (ap (λ (all : List ℕ). nth all number) (sym (is ∙ ap (λ (table : FingerprintTable). table.marks) has))
-    ∙ nth-some list number clause_marks below at)
+pub marks_listed : (state : State) (list : List Marks) (number : ℕ) (other : Marks) → HasFingerprints state → list ≡ state.fingerprints.marks
+    → number < length list → other ≡ get_or list number other → other ≡ marks (clause_at (clauses state.reached) number)
+marks_listed state list number other has is below at =
+    marks_at (clauses state.reached) number other (ap (λ (all : List Marks). nth all number) (sym (is ∙ ap (λ (table : FingerprintTable). table.marks) has))
+    ∙ nth-some list number other below at)
 
 -- by the fingerprints that stand in order of the clauses
 pub listed_prints : (all : List Literals) (list : List Fingerprints) (number : ℕ) (other : Fingerprints) → list ≡ map fingerprints all → number < length all

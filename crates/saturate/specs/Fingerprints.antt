@@ -1,7 +1,6 @@
--- Fingerprints: numbers by which it is seen, without a walk through two clauses, that one can't subsume the other, or that nothing
--- follows from both. No definition of a search speaks of them.
-use Rattle.std.specs.Prelude.{ℕ, ◌+◌, ◌*◌, ◌-◌, ◌^◌, ◌%◌, nat_eq, List, [], ◌∷◌, ◌++◌, map, length, Bool, true, false, not, ◌&&◌, ◌||◌, if◌then◌else◌, Option, Some, None}
-use Rattle.std.specs.Int.Bits.{bit_and, bit_or}
+-- Fingerprints: numbers by which it is seen, without a walk through two clauses, that one can't subsume the other, or that they can't
+-- be resolved. No definition of a search speaks of them.
+use Rattle.std.specs.Prelude.{ℕ, ◌+◌, ◌*◌, ◌%◌, nat_eq, List, [], ◌∷◌, map, length, Bool, true, not, ◌&&◌, ◌||◌, if◌then◌else◌, Option, Some, None}
 use Rattle.std.specs.List.{list_any, list_all}
 use Rattle.kif_tree.specs.declared.form.Form.{Form, fold-Form}
 use Rattle.kif_tree.specs.declared.form.Form.TheOpen.{Form-F}
@@ -11,8 +10,6 @@ use Rattle.kif_tree.specs.Clauses.{Literals, same_sign}
 use Rattle.calculus.specs.Rules.{nth}
 use Rattle.saturate.specs.declared.fingerprint.Fingerprint.{Fingerprint}
 use Rattle.saturate.specs.declared.fingerprint.Fingerprints.{Fingerprints}
-use Rattle.saturate.specs.declared.table.FingerprintTable.{FingerprintTable}
-use Rattle.saturate.specs.Inputs.{is_equality}
 
 -- one number more in a code
 abbrev pub mixed : ℕ → ℕ → ℕ
@@ -92,45 +89,8 @@ abbrev pub others_of : Literals → List Fingerprint
 others_of [] = []
 others_of (literal ∷ literals) = map fingerprint literals
 
--- whether an equation stands in it, by which other clauses may be rewritten
-abbrev pub has_equation : Literals → Bool
-has_equation clause = list_any (λ literal. literal.positive && is_equality literal.atom) clause
-
--- ---- marks: a bit for a sign and a head, so that most pairs of clauses are told apart by two numbers
-
--- all bits
-abbrev pub all_marks : ℕ
-all_marks = 2 ^ 64 - 1
-
-abbrev pub mark_place : Bool → ℕ → ℕ
-mark_place positive head = head % 32 * 2 + (if positive then 1 else 0)
-
--- all where the head isn't known
-abbrev pub mark : Bool → ℕ → ℕ
-mark positive head = if nat_eq head 0 then all_marks else 2 ^ mark_place positive head
-
--- the mark of the literal, or that of one with the other sign
-abbrev pub mark_of : Bool → Fingerprint → ℕ
-mark_of own print = mark (same_sign own print.positive) print.head
-
-abbrev pub joined : ℕ → List ℕ → ℕ
-joined marks [] = marks
-joined marks (mark ∷ more) = joined (bit_or marks mark) more
-
--- of all literals; an equation has to do with every clause
-abbrev pub marks_of : Bool → Bool → Fingerprint → List Fingerprint → ℕ
-marks_of own equation first others = if equation then all_marks else joined (mark_of own first) (map (mark_of own) others)
-
-abbrev pub marks : Literals → ℕ
-marks clause = marks_of true (has_equation clause) (first_of clause) (others_of clause)
-
 abbrev pub fingerprints : Literals → Fingerprints
-fingerprints clause = record {
-  first = first_of clause;
-  others = others_of clause;
-  equation = has_equation clause;
-  wanted = marks_of false (has_equation clause) (first_of clause) (others_of clause);
-}
+fingerprints clause = record { first = first_of clause; others = others_of clause }
 
 -- where it is false, the literal doesn't become one of the clause
 abbrev pub may_be_in : Fingerprint → Fingerprints → Bool
@@ -143,19 +103,6 @@ may_subsume prints others = may_be_in prints.first others && list_all (λ print.
 abbrev pub may_resolve : Fingerprint → Fingerprints → Bool
 may_resolve print others = may_clash print others.first || list_any (may_clash print) others.others
 
--- where it is false, nothing follows from the clauses
+-- where it is false, no literal of the one clause is resolved upon with one of the other
 abbrev pub may_meet : Fingerprints → Fingerprints → Bool
-may_meet prints others = prints.equation || (others.equation || (may_resolve prints.first others
-    || list_any (λ print. may_resolve print others) prints.others))
-
--- where it is true, nothing follows from a clause with the fingerprints and one with the marks
-abbrev pub shares_no_mark : Fingerprints → ℕ → Bool
-shares_no_mark prints marks = nat_eq (bit_and prints.wanted marks) 0
-
--- ---- tables
-
-abbrev pub tabled : List Literals → FingerprintTable
-tabled clauses = record { all = map fingerprints clauses; marks = map marks clauses }
-
-abbrev pub tabled_with : FingerprintTable → Literals → FingerprintTable
-tabled_with table clause = record { all = table.all ++ fingerprints clause ∷ []; marks = table.marks ++ marks clause ∷ [] }
+may_meet prints others = may_resolve prints.first others || list_any (λ print. may_resolve print others) prints.others

@@ -6,5 +6,6 @@ pub mod Indexes
 pub mod Inputs
 pub mod Laws
 pub mod Limits
+pub mod Marks
 pub mod Runs
 pub mod States

@@ -3,7 +3,7 @@ use Rattle.std.specs.Prelude.{◌≡◌, ◌<◌, map, length}
 use Rattle.sigma_base.specs.Lists.{Each}
 use Rattle.infer.specs.Plain.{IsPlain}
 use Rattle.saturate.specs.declared.reached.State.{State}
-use Rattle.saturate.specs.Fingerprints.{tabled}
+use Rattle.saturate.specs.Marks.{tabled}
 use Rattle.saturate.specs.Indexes.{IsIndexed, listed}
 use Rattle.saturate.specs.Runs.{clauses, weight, kept_count}
 

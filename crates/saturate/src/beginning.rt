@@ -5,7 +5,8 @@ ghost use Rattle.infer.specs.Checks.{clauses_of};
 ghost use Rattle.infer.specs.Plain.{IsPlain};
 ghost use Rattle.calculus.specs.declared.step.Step.TheVariants as steps;
 ghost use Rattle.saturate.specs.Runs as spec;
-ghost use Rattle.saturate.specs.Fingerprints.{fingerprints as prints_of, tabled};
+ghost use Rattle.saturate.specs.Fingerprints.{fingerprints as prints_of};
+ghost use Rattle.saturate.specs.Marks.{tabled};
 ghost use Rattle.saturate.specs.Indexes.{AreListed, listed as listed_in};
 ghost use Rattle.saturate.specs.States.{IsConsistent};
 

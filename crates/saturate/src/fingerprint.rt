@@ -1,11 +1,10 @@
 //! Fingerprints of clauses, by which most pairs of clauses are told apart without a walk through either.
-ghost use Rattle.std.specs.Prelude.{◌≡◌, ◌<◌, true, IfOk};
+ghost use Rattle.std.specs.Prelude.{◌≡◌, ◌<◌, IfOk};
 ghost use Rattle.std.specs.List.{list_any};
 ghost use Rattle.saturate.specs.Fingerprints as spec;
 ghost use Rattle.saturate.specs.Indexes.{HasCodes, key_of};
 
 use crate::index::key;
-use crate::inputs::is_equality;
 use kif_tree::{Clause, Form, Literal, parts_of};
 use sigma_base::{Listed, NoMemory};
 use std::alloc::Global;
@@ -30,10 +29,6 @@ pub(crate) struct Fingerprint {
 pub(crate) struct Fingerprints {
     pub(crate) first: Fingerprint,
     pub(crate) others: Listed<Fingerprint>,
-    /// A positive literal is an equality.
-    pub(crate) equation: bool,
-    /// The marks of the literals that these could be resolved with, or all.
-    pub(crate) wanted: u64,
 }
 
 pub(crate) fn mixed(code: u64, next: u64) -> u64
@@ -45,7 +40,7 @@ pub(crate) fn mixed(code: u64, next: u64) -> u64
     (code * 257 + next) % 2_147_483_647
 }
 
-fn code_of_text(kind: u64, text: &[u8]) -> u64
+pub(crate) fn code_of_text(kind: u64, text: &[u8]) -> u64
     requires { kind < 2147483648 }
     ensures code { result ≡ spec.code_of_text kind text.now }
     ensures below { result < 2147483648 }
@@ -58,7 +53,7 @@ fn code_of_text(kind: u64, text: &[u8]) -> u64
 }
 
 /// A number for a form without variables, and 0 for one with variables. Two forms may have one number.
-fn code(form: &Form) -> u64
+pub(crate) fn code(form: &Form) -> u64
     ensures code { result ≡ spec.code form.now }
     ensures below { result < 2147483648 }
 {
@@ -188,18 +183,6 @@ impl Fingerprint {
     }
 }
 
-/// Whether a positive literal is an equality.
-fn has_equation(literals: &[Literal]) -> bool
-    ensures { result ≡ spec.has_equation literals.now }
-{
-    for literal in literals {
-        if literal.positive && is_equality(&literal.atom) {
-            return true;
-        }
-    }
-    false
-}
-
 fn first_of(literals: &[Literal]) -> Fingerprint
     ensures { result ≡ spec.first_of literals.now }
 {
@@ -222,37 +205,6 @@ fn others_of(alloc: Global, literals: &[Literal]) -> Result<Listed<Fingerprint>,
     Ok(prints)
 }
 
-/// A bit for the sign and the head, or all bits where the head isn't known.
-fn mark(positive: bool, head: u64) -> u64
-    ensures { result ≡ spec.mark positive head }
-{
-    if head == 0 {
-        return u64::MAX;
-    }
-    let sign = if positive { 1 } else { 0 };
-    1 << (head % 32 * 2 + sign)
-}
-
-fn mark_of(own: bool, print: &Fingerprint) -> u64
-    ensures { result ≡ spec.mark_of own print.now }
-{
-    mark(own == print.positive, print.head)
-}
-
-/// The marks of the literals, or those of literals with the other signs.
-fn marks_of(own: bool, equation: bool, first: &Fingerprint, others: &[Fingerprint]) -> u64
-    ensures { result ≡ spec.marks_of own equation first.now others.now }
-{
-    if equation {
-        return u64::MAX;
-    }
-    let mut marks = mark_of(own, first);
-    for print in others {
-        marks |= mark_of(own, print);
-    }
-    marks
-}
-
 impl Fingerprints {
     pub(crate) fn of(alloc: Global, clause: &Clause) -> Result<Fingerprints, NoMemory>
         ensures { IfOk result (λ prints. prints ≡ spec.fingerprints clause.now) }
@@ -260,28 +212,7 @@ impl Fingerprints {
         let literals = clause.literals.items();
         let first = first_of(literals);
         let others = others_of(alloc, literals)?;
-        let equation = has_equation(literals);
-        let wanted = marks_of(false, equation, &first, others.items());
-        Ok(Fingerprints {
-            first,
-            others,
-            equation,
-            wanted,
-        })
-    }
-
-    /// A bit for the sign and the head of each literal, or all.
-    pub(crate) fn marks(&self) -> u64
-        ensures { result ≡ spec.marks_of true self.now.equation self.now.first self.now.others }
-    {
-        marks_of(true, self.equation, &self.first, self.others.items())
-    }
-
-    /// Where it is true, nothing follows from a clause with these fingerprints and one with those marks.
-    pub(crate) fn shares_no_mark(&self, marks: u64) -> bool
-        ensures { result ≡ spec.shares_no_mark self.now marks }
-    {
-        self.wanted & marks == 0
+        Ok(Fingerprints { first, others })
     }
 
     /// Where it is false, no clause with these fingerprints subsumes one with the others.
@@ -299,11 +230,11 @@ impl Fingerprints {
         true
     }
 
-    /// Where it is false, nothing follows from clauses with these fingerprints.
+    /// Where it is false, no literal of a clause with these fingerprints is resolved upon with one of a clause with the others.
     pub(crate) fn may_meet(&self, others: &Fingerprints) -> bool
         ensures { result ≡ spec.may_meet self.now others.now }
     {
-        if self.equation || others.equation || self.first.may_resolve(others) {
+        if self.first.may_resolve(others) {
             return true;
         }
         for print in self.others.items() {

@@ -13,6 +13,7 @@ mod inputs;
 mod laws;
 mod limits;
 mod lookup;
+mod marks;
 mod reached;
 mod saturation;
 mod table;

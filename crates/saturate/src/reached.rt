@@ -7,7 +7,7 @@ ghost use Rattle.unify.specs.Subsumption.{Subsumes};
 ghost use Rattle.infer.specs.Conclusions.{AreConclusions, clause_at};
 ghost use Rattle.infer.specs.declared.conclusion.Conclusion.{Conclusion};
 ghost use Rattle.saturate.specs.Runs as spec;
-ghost use Rattle.saturate.specs.Fingerprints.{fingerprints as prints_of};
+ghost use Rattle.saturate.specs.Fingerprints.{fingerprints as prints_of, may_meet};
 ghost use Rattle.saturate.specs.Indexes.{IsListedUnderOne, listed as listed_in};
 ghost use Rattle.saturate.specs.States.{HasWeights, HasFingerprints};
 ghost use Rattle.std.specs.Prelude.{min, sum, map};
@@ -158,24 +158,33 @@ impl<'a> State<'a> {
         }
     }
 
+    /// Where it is false, no literal of the one clause is resolved upon with one of the other.
+    fn may_resolve(&self, given: u32, partner: u32) -> bool
+        requires { HasFingerprints self.now }
+        ensures { result ≡ false → may_meet (prints_of (clause_at (spec.clauses self.now.reached) given)) (prints_of (clause_at (spec.clauses self.now.reached) partner)) ≡ false }
+    {
+        let all = self.fingerprints.all.items();
+        match (all.get(given as usize), all.get(partner as usize)) {
+            (Some(own), Some(other)) => own.may_meet(other),
+            _ => true,
+        }
+    }
+
     /// Where it is false, nothing follows from the two clauses.
     pub fn may_meet(&self, given: u32, partner: u32) -> bool
         requires { HasFingerprints self.now }
         ensures { result ≡ false → (same : Bool) → AreConclusions (clause_at (spec.clauses self.now.reached) given) (clause_at (spec.clauses self.now.reached) partner) same [] }
     {
-        let all = self.fingerprints.all.items();
-        let Some(own) = all.get(given as usize) else {
+        let marks = self.fingerprints.marks.items();
+        let Some(own) = marks.get(given as usize) else {
             return true;
         };
-        let Some(marks) = self.fingerprints.marks.items().get(partner as usize) else {
+        let Some(other) = marks.get(partner as usize) else {
             return true;
         };
-        if own.shares_no_mark(*marks) {
-            return false;
+        if own.may_rewrite(other) || other.may_rewrite(own) {
+            return true;
         }
-        match all.get(partner as usize) {
-            Some(other) => own.may_meet(other),
-            None => true,
-        }
+        own.may_resolve_by(other) && self.may_resolve(given, partner)
     }
 }

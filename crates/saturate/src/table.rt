@@ -1,8 +1,9 @@
 //! The fingerprints of all clauses of a search.
 ghost use Rattle.std.specs.Prelude.{◌≡◌, [], OnOk};
-ghost use Rattle.saturate.specs.Fingerprints as spec;
+ghost use Rattle.saturate.specs.Marks as spec;
 
 use crate::fingerprint::Fingerprints;
+use crate::marks::Marks;
 use kif_tree::Clause;
 use sigma_base::{Listed, NoMemory};
 use std::alloc::Global;
@@ -11,9 +12,8 @@ use std::alloc::Global;
 #[derive(Debug, Drop)]
 pub(crate) struct FingerprintTable {
     pub(crate) all: Listed<Fingerprints>,
-    /// The marks of each clause. They stand in a list of their own, since each turn goes over those of all partners: a number is read faster
-    /// than the record of fingerprints.
-    pub(crate) marks: Listed<u64>,
+    /// The marks of each clause. They stand in a list of their own, since each turn goes over those of all partners.
+    pub(crate) marks: Listed<Marks>,
 }
 
 impl FingerprintTable {
@@ -31,7 +31,7 @@ impl FingerprintTable {
         ensures { OnOk result (self.new ≡ spec.tabled_with self.old clause.now) }
     {
         let prints = Fingerprints::of(alloc, clause)?;
-        self.marks.push(prints.marks())?;
+        self.marks.push(Marks::of(clause, &prints))?;
         self.all.push(prints)?;
         Ok(())
     }

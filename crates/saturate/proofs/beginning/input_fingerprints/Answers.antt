@@ -1,6 +1,6 @@
 use Rattle.std.proofs.Common.{◌<◌, length, sym, ap, ◌∙◌, arith}
 use Rattle.saturate.specs.declared.table.FingerprintTable.{FingerprintTable}
-use Rattle.saturate.specs.Fingerprints.{tabled_with}
+use Rattle.saturate.specs.Marks.{tabled_with}
 use Rattle.saturate.proofs.BeginningLaws.{tabled_inputs, there_is}
 use Rattle.saturate.proofs.beginning.input_fingerprints.Goals as goal
 use Rattle.saturate.proofs.beginning.input_fingerprints.Goals.{in-Some+in_ok-add, in_default}

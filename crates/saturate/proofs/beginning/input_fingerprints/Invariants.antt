@@ -1,6 +1,6 @@
 use Rattle.std.proofs.Common.{◌≡◌, take}
 use Rattle.infer.specs.Checks.{clauses_of}
-use Rattle.saturate.specs.Fingerprints.{tabled}
+use Rattle.saturate.specs.Marks.{tabled}
 use Rattle.saturate.proofs.beginning.input_fingerprints.Given as goal
 
 abbrev pub invariant-loop-number : goal.invariant-loop-number

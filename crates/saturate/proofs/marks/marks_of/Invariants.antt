@@ -1,6 +1,6 @@
 use Rattle.std.proofs.Common.{◌≡◌, map, drop}
-use Rattle.saturate.specs.Fingerprints as spec
-use Rattle.saturate.proofs.fingerprint.marks_of.Given as goal
+use Rattle.saturate.specs.Marks as spec
+use Rattle.saturate.proofs.marks.marks_of.Given as goal
 
 abbrev pub invariant-loop-print : goal.invariant-loop-print
 invariant-loop-print l =
