@@ -30,3 +30,5 @@ mod tests_check;
 mod tests_clauses;
 #[cfg(test)]
 mod tests_requests;
+#[cfg(test)]
+mod tests_search;
